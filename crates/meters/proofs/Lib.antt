@@ -1,0 +1,4 @@
+pub mod Adding
+pub mod Filling
+pub mod Judging
+pub mod Laws

@@ -1,0 +1,3 @@
+pub mod Rating
+pub mod Signed
+pub mod Register

@@ -1,0 +1,67 @@
+// The quantities of the book and the meters: ratings in kVA, power in kW, signed numbers by their parts, registers.
+ghost use mathlib.Core.Path.{_≡_};
+ghost use Prim.Native.Nat.{_≤_};
+ghost use lib.IntN.{pos, _-ℤ_};
+ghost use Rattle.quantity.specs.Signed.{posPart, negPart, ofSize};
+ghost use Rattle.quantity.specs.Rating.{limitOf};
+ghost use Rattle.quantity.specs.Register.{advance};
+
+// Apparent power.
+pub struct Kva(pub u32);
+
+// Real power.
+pub struct Kw(pub u32);
+
+// What a rating allows at a power factor in thousandths. A rating leaves its kVA nowhere else.
+pub fn limit(rating: Kva, factor: u32) -> Kw
+    requires { ⌜ factor ≤ 1000 ⌝ }
+    ensures { λ r. ⌜ r .0 ≡ limitOf (rating .0) factor ⌝ }
+{
+    let kva = rating.0;
+    Kw((kva as u64 * factor as u64 / 1000) as u32)
+}
+
+// What of x lies above 0.
+pub fn above(x: i32) -> u32
+    ensures { λ r. ⌜ r ≡ posPart x ⌝ }
+{
+    if x < 0 { 0 } else { x as u32 }
+}
+
+// What of x lies below 0: the least number's size has no i32 of its own.
+pub fn below(x: i32) -> u32
+    ensures { λ r. ⌜ r ≡ negPart x ⌝ }
+{
+    if x < 0 { (-1 - x) as u32 + 1 } else { 0 }
+}
+
+// The number of a sign and a size.
+pub fn signed(negative: bool, size: u32) -> i32
+    requires { ⌜ size ≤ 2147483647 ⌝ }
+    ensures { λ r. ⌜ r ≡ ofSize negative size ⌝ }
+{
+    if negative {
+        0 - (size as i32)
+    } else {
+        size as i32
+    }
+}
+
+// More less less, with its sign.
+pub fn difference(more: u32, fewer: u32) -> i32
+    requires { ⌜ (more ≤ 2147483647) × (fewer ≤ 2147483647) ⌝ }
+    ensures { λ r. ⌜ r ≡ pos more -ℤ pos fewer ⌝ }
+{
+    if more < fewer {
+        signed(true, fewer - more)
+    } else {
+        signed(false, more - fewer)
+    }
+}
+
+// How far a register went on from one reading to the next, carried past its top.
+pub fn advanced(start: u32, end: u32) -> u32
+    ensures { λ r. ⌜ r ≡ advance start end ⌝ }
+{
+    std::num::wrapping_sub_u32(end, start)
+}
