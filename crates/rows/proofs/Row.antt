@@ -1,12 +1,12 @@
 -- Laws of rows: first places filled one by one, a part in the middle, tests over the first places.
-use mathlib.Core.Path.{_≡_, refl, ap, _∙_}
+use mathlib.Core.Path.{_≡_, refl, sym, ap, _∙_}
 use mathlib.Core.Bool.{Bool, true, false, _&&_, _||_, true≢false, false≢true}
 use mathlib.Core.Logic.{_⊎_, ⊎-elim}
-use mathlib.Core.List.{List, [], _∷_, _++_, append-assoc}
+use mathlib.Core.List.{List, [], _∷_, _++_, append-assoc, append-nil}
 use Prim.Native.Nat.{ℕ, zero, suc, _+_, _-_, _<_, _≤_}
 use native.Mathlib.Omega.{arith}
 use native.Mathlib.Numerals.{add-one}
-use lib.ListN.{length, getD, take, drop, set, length-append, length-take, length-drop, List·getD-append}
+use lib.ListN.{length, getD, take, drop, set, drop-of-length-le, length-append, length-take, length-drop, List·getD-append}
 use lib.Seq.{take-at, drop-at, drop-cons, set-at, length-take-le, getD-take, getD-drop, getD-append-add, getD-at, ext-getD}
 use Rattle.rows.specs.Row.{upTo, headed, placed, some, every}
 use Rattle.rows.proofs.Sum.{side, below, equal, above}
@@ -52,6 +52,13 @@ module _ {A : Type 0} where
       ∙ getD-append-add (upTo n f) (drop n l) (k - n) d
       ∙ getD-drop n l (k - n) d
       ∙ ap (λ (m : ℕ). getD l m d) q
+
+  -- A row filled with another that is as long.
+  pub headed-all : (s l : List A) (d : A) → length s ≡ length l → headed (length l) (λ k. getD s k d) l ≡ s
+  headed-all s l d e =
+      rw (drop-of-length-le l {i = length l} (omega arith), append-nil)
+      (ext-getD d (upTo (length l) (λ k. getD s k d)) s (length-upTo (length l) (λ k. getD s k d) ∙ sym e)
+      (λ i h. getD-upTo (length l) (λ k. getD s k d) i d (omega (arith, length-upTo (length l) (λ k. getD s k d)))))
 
   module _ (a n : ℕ) (t s : List A) (in-t : a + n ≤ length t) (long : length s ≡ n) where
     front : length (take a t) ≡ a
@@ -132,6 +139,22 @@ module _ (p : ℕ → Bool) where
   every-at (suc n) e k h =
       let w = both-true (every n p) (p n) e in
       elim (side k n) [ below l ↦ every-at n (w .0) k l | equal l ↦ rw l (w .1) | above l ↦ absurd (omega arith) ]
+
+  pub every-none : every 0 p ≡ true
+  unfolding every
+  every-none = refl
+
+  pub every-more : (n : ℕ) → every n p ≡ true → p n ≡ true → every (n + 1) p ≡ true
+  unfolding every
+  every-more n e h = rw (add-one, e, h) refl
+
+  -- One that fails is enough.
+  pub every-not : (n k : ℕ) → k < n → p k ≡ false → every n p ≡ false
+  every-not n k l e = go (every n p) refl
+    where
+      go : (t : Bool) → every n p ≡ t → every n p ≡ false
+      go true q = absurd (true≢false (sym (every-at n q k l) ∙ e))
+      go false q = q
 
   pub every-from : (n : ℕ) → ((k : ℕ) → k < n → p k ≡ true) → every n p ≡ true
   unfolding every

@@ -1,0 +1,4 @@
+pub mod Low
+pub mod Bits
+pub mod Window
+pub mod Fields

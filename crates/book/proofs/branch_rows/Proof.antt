@@ -1,0 +1,79 @@
+use borrow.Author.Needs.{needs}
+use native.Mathlib.Omega.{arith}
+use Prim.Native.Nat.{_-_}
+use Rattle.book.proofs.Branching.{Branching, branching-start, branching-more, branching-end, ends-fit}
+use Rattle.book.proofs.branch_rows.Statement.{statement}
+use Rattle.book.proofs.branch_rows.Tie as tie
+
+abbrev Inv-loop : tie.InvT-loop
+Inv-loop book buses branches factor first₀ second₀ served₀ limit₀ k₀ first second served limit k =
+    Branching book buses branches factor first₀ second₀ served₀ limit₀ first second served limit k
+
+abbrev μ-loop : tie.MeasureT-loop
+μ-loop book buses branches factor first₀ second₀ served₀ limit₀ k₀ first second served limit k = branches - k
+
+loop-holds : tie.Need-loop-holds Inv-loop μ-loop
+loop-holds c = branching-start _ _ _ _ _ _ _ _
+
+branch-at-requires : tie.Need-branch-at-requires Inv-loop μ-loop
+branch-at-requires c κs = search needs
+
+cast-first : tie.Need-cast-first Inv-loop μ-loop
+cast-first c = let w = ends-fit _ _ _ _ (c .before .branch-at .ensures) in omega (arith, w .first-fits)
+
+array-write-first : tie.Need-array-write-first Inv-loop μ-loop
+array-write-first c = omega arith
+
+cast-second : tie.Need-cast-second Inv-loop μ-loop
+cast-second c = let w = ends-fit _ _ _ _ (c .before .before .branch-at .ensures) in omega (arith, w .second-fits)
+
+array-write-second : tie.Need-array-write-second Inv-loop μ-loop
+array-write-second c = omega arith
+
+array-write-served : tie.Need-array-write-served Inv-loop μ-loop
+array-write-served c = omega arith
+
+limit-requires : tie.Need-limit-requires Inv-loop μ-loop
+limit-requires c κs = search needs
+
+mul-limit : tie.Need-mul-limit Inv-loop μ-loop
+mul-limit c = omega arith
+
+array-write-limit : tie.Need-array-write-limit Inv-loop μ-loop
+array-write-limit c = omega arith
+
+add-k : tie.Need-add-k Inv-loop μ-loop
+add-k c = omega arith
+
+loop-less : tie.Need-loop-less Inv-loop μ-loop
+loop-less c = omega arith
+
+loop-again : tie.Need-loop-again Inv-loop μ-loop
+loop-again c =
+    let x = c .before .before .before .before in
+    let l = x .before in
+    branching-more _ _ _ _ _ _ _ _ _ _ _ (l .loop-test .taken) (l .before .before .before .pre .1) (l .before .loop .inv) (x .branch-at .ensures) (c .limit .ensures)
+
+returns : tie.Need-returns Inv-loop μ-loop
+returns c = branching-end _ _ _ _ _ _ _ (c .loop-test .left) (c .before .loop .inv)
+
+pub branch-rows-spec : {M : Type 1} → statement M
+branch-rows-spec =
+    tie.close
+    (tie.spec
+    Inv-loop
+    μ-loop
+    loop-holds
+    branch-at-requires
+    cast-first
+    array-write-first
+    cast-second
+    array-write-second
+    array-write-served
+    limit-requires
+    mul-limit
+    array-write-limit
+    add-k
+    loop-less
+    loop-again
+    returns)

@@ -1,0 +1,4 @@
+pub mod Net
+pub mod Flow
+pub mod Reach
+pub mod Excess

@@ -1,0 +1,11 @@
+pub mod Rows
+pub mod Faults
+pub mod Accept
+pub mod Signs
+pub mod Packed
+pub mod WellFormed
+pub mod Trips
+pub mod Status
+pub mod Outcomes
+pub mod Scan
+pub mod Tally

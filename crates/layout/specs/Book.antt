@@ -1,0 +1,60 @@
+-- A book: what it says of the network, and when it is well formed.
+use mathlib.Core.Path.{_≡_}
+use mathlib.Core.Logic.{_≢_}
+use mathlib.Core.List.{List}
+use Prim.Native.Nat.{ℕ, _+_, _<_, _≤_}
+use lib.IntN.{ℤ, pos}
+use lib.ListN.{length, getD, set}
+use Rattle.rows.specs.Sum.{all, sum}
+use Rattle.quantity.specs.Signed.{posPart, negPart}
+use Rattle.layout.specs.declared.Branch.{Branch}
+
+-- The power factor in thousandths, the injections in kW, the branches.
+pub record Book : Type 0 where
+  pub factor : ℕ
+  pub injections : List ℤ
+  pub branches : List Branch
+
+abbrev pub buses : Book → ℕ
+buses b = length (b .injections)
+
+abbrev pub count : Book → ℕ
+count b = length (b .branches)
+
+-- Past the last bus nothing enters, and past the last branch there is one with nothing in it.
+abbrev pub injection : Book → ℕ → ℤ
+injection b k = getD (b .injections) k (pos 0)
+
+abbrev pub noBranch : Branch
+noBranch = record { first = 0; second = 0; kva = 0; status = 0 }
+
+abbrev pub branch : Book → ℕ → Branch
+branch b k = getD (b .branches) k noBranch
+
+-- The book with branch k's status made v.
+abbrev pub restated : Branch → ℕ → Branch
+restated x v = record { first = x .first; second = x .second; kva = x .kva; status = v }
+
+abbrev pub withStatus : Book → ℕ → ℕ → Book
+withStatus b k v = record { factor = b .factor; injections = b .injections; branches = set (b .branches) k (restated (branch b k) v) }
+
+-- The kW of an injection without its sign.
+abbrev pub size : ℤ → ℕ
+size z = posPart z + negPart z
+
+pub record GoodBranch (n : ℕ) (x : Branch) : Type 0 where
+  pub first-there : x .first < n
+  pub second-there : x .second < n
+  pub apart : x .first ≢ x .second
+  pub rating : x .kva ≤ 1000000
+  pub flag : x .status ≤ 1
+
+pub record WellFormed (b : Book) : Type 0 where
+  pub some-bus : 1 ≤ buses b
+  pub few-buses : buses b ≤ 128
+  pub few-branches : count b ≤ 256
+  pub some-factor : 1 ≤ b .factor
+  pub small-factor : b .factor ≤ 1000
+  pub sizes : (k : ℕ) → k < buses b → size (injection b k) ≤ 1000000
+  pub good : (k : ℕ) → k < count b → GoodBranch (buses b) (branch b k)
+  pub balanced : sum (buses b) all (injection b) ≡ pos 0

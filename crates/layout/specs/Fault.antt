@@ -1,0 +1,39 @@
+-- Faults of buses and branches: the field at fault of one item, and the first fault of many.
+use mathlib.Core.Bool.{Bool, true, false, _&&_}
+use Prim.Native.Nat.{ℕ, zero, suc}
+use lib.Dec.{ltb, leb, eqb}
+use Rattle.layout.specs.declared.Branch.{Branch}
+use Rattle.layout.specs.declared.Fault.{Fault}
+use Rattle.layout.specs.declared.Fault.the-variants.{Sound, At}
+
+-- Fields are numbered from 1, and 0 is no fault.
+abbrev pub faultIf : Bool → ℕ → ℕ → ℕ
+faultIf true field next = field
+faultIf false field next = next
+
+-- The size is above 1,000,000; or it is a minus zero, which is the size's fault.
+unfoldable pub busFault : ℕ → ℕ → ℕ
+busFault sign size = faultIf (ltb 1000000 size) 2 (faultIf (eqb sign 1 && eqb size 0) 2 0)
+
+-- A bus not below the bus count; both ends equal, which is the second bus's fault; kVA above 1,000,000; status above 1.
+unfoldable pub branchFault : ℕ → Branch → ℕ
+branchFault n x =
+    faultIf (leb n (x .first)) 1
+    (faultIf (leb n (x .second)) 2
+    (faultIf (eqb (x .first) (x .second)) 2
+    (faultIf (ltb 1000000 (x .kva)) 3
+    (faultIf (ltb 1 (x .status)) 4
+    0))))
+
+abbrev pub faultAt : ℕ → ℕ → Fault
+faultAt item zero = Sound
+faultAt item (suc field) = At item (suc field)
+
+abbrev pub orElse : Fault → Fault → Fault
+orElse Sound next = next
+orElse (At item field) next = At item field
+
+-- The first fault of items 0, 1, .., n - 1.
+unfoldable pub firstFault : (ℕ → ℕ) → ℕ → Fault
+firstFault f zero = Sound
+firstFault f (suc n) = orElse (firstFault f n) (faultAt n (f n))

@@ -1,0 +1,6 @@
+pub mod Book
+pub mod Fault
+pub mod Layout
+pub mod Check
+pub mod Lent
+pub mod Examples

@@ -1,0 +1,188 @@
+// The writer's side of the packed book: the tables beside it are checked, and packed.
+ghost use mathlib.Core.Path.{_≡_};
+ghost use Prim.Native.Nat.{_+_, _*_, _<_, _≤_};
+ghost use lib.ListN.{length, replicate};
+ghost use Rattle.rows.specs.declared.Outcome.the-variants.{Accepted};
+ghost use Rattle.rows.specs.Sum.{pick};
+ghost use Rattle.quantity.specs.Signed.{isNeg};
+ghost use Rattle.bits.specs.Fields.{putItems};
+ghost use Rattle.layout.specs.declared.Fault.the-variants.{Sound};
+ghost use Rattle.layout.specs.Book.{size};
+ghost use Rattle.layout.specs.Fault.{firstFault};
+ghost use Rattle.layout.specs.Layout.{busWidths, branchWidths, busStart, branchStart, bytesFor, busFrom, busValues, branchValues, encode};
+ghost use Rattle.layout.specs.Check.{balances};
+ghost use Rattle.pack.specs.Write.{entry, rowAt, bookFrom, entryFault, rowFault, writeCheck};
+use layout::Branch;
+use layout::Bus;
+use layout::Fault;
+use rows::Outcome;
+
+fn sign_of(x: i32) -> u32
+    ensures { λ r. ⌜ r ≡ pick (isNeg x) 1 ⌝ }
+{
+    if 0 < quantity::below(x) { 1 } else { 0 }
+}
+
+// An injection's kW without its sign.
+fn size_of(x: i32) -> u32
+    ensures { λ r. ⌜ r ≡ size x ⌝ }
+{
+    quantity::above(x) + quantity::below(x)
+}
+
+// The sign and size of an injection.
+fn bus_of(x: i32) -> Bus
+    ensures { λ r. ⌜ r ≡ busFrom (busValues x) ⌝ }
+{
+    Bus {
+        sign: sign_of(x),
+        size: size_of(x),
+    }
+}
+
+fn first_entry_fault(injections: &[i32], buses: usize) -> Fault
+    requires { ⌜ buses ≤ length (now injections) ⌝ }
+    ensures { λ r. ⌜ r ≡ firstFault (entryFault (now (injections .entry))) buses ⌝ }
+{
+    for k in 0..buses {
+        let field = layout::bus_fault(bus_of(injections[k]));
+        if field != 0 {
+            return Fault::At { item: k, field };
+        }
+    }
+    Fault::Sound
+}
+
+// Branch k of the table.
+fn row_at(branches: &[u32], k: usize) -> Branch
+    requires { ⌜ (k < 256) × (4 * k + 4 ≤ length (now branches)) ⌝ }
+    ensures { λ r. ⌜ r ≡ rowAt (now (branches .entry)) k ⌝ }
+{
+    let at = 4 * k;
+    Branch {
+        first: branches[at],
+        second: branches[at + 1],
+        kva: branches[at + 2],
+        status: branches[at + 3],
+    }
+}
+
+fn first_row_fault(branches: &[u32], buses: usize, count: usize) -> Fault
+    requires { ⌜ (count ≤ 256) × (4 * count ≤ length (now branches)) ⌝ }
+    ensures { λ r. ⌜ r ≡ firstFault (rowFault buses (now (branches .entry))) count ⌝ }
+{
+    for k in 0..count {
+        let field = layout::branch_fault(buses, row_at(branches, k));
+        if field != 0 {
+            return Fault::At { item: k, field };
+        }
+    }
+    Fault::Sound
+}
+
+// What enters is what leaves, of injections without fault.
+fn is_balanced(injections: &[i32], buses: usize) -> bool
+    requires { ⌜ (buses ≤ 128) × (buses ≤ length (now injections)) × (firstFault (entryFault (now injections)) buses ≡ Sound) ⌝ }
+    ensures { λ r. ⌜ r ≡ balances buses (entry (now (injections .entry))) ⌝ }
+{
+    let mut enters: u32 = 0;
+    let mut leaves: u32 = 0;
+    for k in 0..buses {
+        let x = injections[k];
+        enters += quantity::above(x);
+        leaves += quantity::below(x);
+    }
+    enters == leaves
+}
+
+// The writer's refusals, for so many bytes of output.
+pub fn check_tables(
+    buses: usize,
+    count: usize,
+    factor: u32,
+    injections: &[i32],
+    branches: &[u32],
+    room: usize,
+) -> Outcome
+    ensures { λ r. ⌜ r ≡ writeCheck buses count factor (now (injections .entry)) (now (branches .entry)) room ⌝ }
+{
+    if layout::is_outside(buses, count, factor) {
+        return rows::refuse(2);
+    }
+    if injections.len() < buses {
+        return rows::refuse(8);
+    }
+    if branches.len() < 4 * count {
+        return rows::refuse(8);
+    }
+    let bus = first_entry_fault(injections, buses);
+    if let Fault::At { item: _, field: _ } = bus {
+        return rows::refuse(4);
+    }
+    let branch = first_row_fault(branches, buses, count);
+    if let Fault::At { item: _, field: _ } = branch {
+        return rows::refuse(5);
+    }
+    if !is_balanced(injections, buses) {
+        return rows::refuse(7);
+    }
+    if room < layout::bytes_for(buses, count) {
+        return rows::refuse(8);
+    }
+    Outcome::Accepted
+}
+
+fn clear(out: &mut [u8])
+    ensures { λ _. ⌜ now (out .exit) ≡ replicate (length (now (out .entry))) 0 ⌝ }
+{
+    for i in 0..out.len() {
+        out[i] = 0;
+    }
+}
+
+fn put_buses(out: &mut [u8], buses: usize, injections: &[i32])
+    requires { ⌜ (buses ≤ 128) × (buses ≤ length (now injections)) ⌝ }
+    ensures { λ _. ⌜ now (out .exit) ≡ putItems busWidths (now (out .entry)) busStart (λ k. busValues (entry (now (injections .entry)) k)) buses ⌝ }
+{
+    for k in 0..buses {
+        let x = bus_of(injections[k]);
+        let at = layout::bus_place(k);
+        bits::put(out, at, 1, x.sign);
+        bits::put(out, at + 1, 20, x.size);
+    }
+}
+
+fn put_branches(out: &mut [u8], buses: usize, count: usize, branches: &[u32])
+    requires { ⌜ (buses ≤ 128) × (count ≤ 256) × (4 * count ≤ length (now branches)) ⌝ }
+    ensures { λ _. ⌜ now (out .exit) ≡ putItems branchWidths (now (out .entry)) (branchStart buses) (λ k. branchValues (rowAt (now (branches .entry)) k)) count ⌝ }
+{
+    for k in 0..count {
+        let x = row_at(branches, k);
+        let at = layout::branch_place(buses, k);
+        bits::put(out, at, 7, x.first);
+        bits::put(out, at + 7, 7, x.second);
+        bits::put(out, at + 14, 20, x.kva);
+        bits::put(out, at + 34, 1, x.status);
+    }
+}
+
+// The book of accepted tables, into a row of exactly its length.
+pub fn pack_into(
+    out: &mut [u8],
+    buses: usize,
+    count: usize,
+    factor: u32,
+    injections: &[i32],
+    branches: &[u32],
+)
+    requires { ⌜ (length (now out) ≡ bytesFor buses count) × (writeCheck buses count factor (now injections) (now branches) (length (now out)) ≡ Accepted) ⌝ }
+    ensures { λ _. ⌜ now (out .exit) ≡ encode (bookFrom buses count factor (now (injections .entry)) (now (branches .entry))) ⌝ }
+{
+    clear(out);
+    bits::put(out, 0, 8, buses as u32);
+    bits::put(out, 8, 9, count as u32);
+    bits::put(out, 17, 10, factor);
+    bits::put(out, 27, 5, 0);
+    put_buses(out, buses, injections);
+    put_branches(out, buses, count, branches);
+}

@@ -1,0 +1,109 @@
+// The 52 bytes of a branch, on a stretch lent out of the middle of the table: written, read, and tested for the shortlist.
+ghost use mathlib.Core.Path.{_≡_};
+ghost use Prim.Native.Nat.{_+_, _*_, _≤_, _<_};
+ghost use lib.ListN.{length};
+ghost use Rattle.rows.specs.Row.{placed};
+ghost use Rattle.verdict.specs.Record.{recordAt};
+ghost use Rattle.record.specs.Bytes.{recordBytes, Read, listed};
+
+// What a record shows of its branch.
+pub struct Shown {
+    pub verdict: u8,
+    pub shortage: u32,
+    pub group: [u8; 16],
+}
+
+// All of one stretch into another as long.
+fn copy(from: &[u8], to: &mut [u8])
+    requires { ⌜ length (now from) ≡ length (now to) ⌝ }
+    ensures { λ _. ⌜ now (to .exit) ≡ now (from .entry) ⌝ }
+{
+    let mut i: usize = 0;
+    while i < to.len() {
+        to[i] = from[i];
+        i += 1;
+    }
+}
+
+fn put_record(rec: &mut [u8], verdict: u8, shortage: u32, group: [u8; 16], reroute: [u8; 32])
+    requires { ⌜ (length (now rec) ≡ 52) × (shortage < 16777216) ⌝ }
+    ensures { λ _. ⌜ now (rec .exit) ≡ recordBytes verdict shortage group reroute ⌝ }
+{
+    rec[0] = verdict;
+    rec[1] = (shortage / 65536) as u8;
+    rec[2] = (shortage / 256 % 256) as u8;
+    rec[3] = (shortage % 256) as u8;
+    copy(&group, &mut rec[4..20]);
+    copy(&reroute, &mut rec[20..52]);
+}
+
+pub fn write_at(
+    table: &mut [u8],
+    k: usize,
+    verdict: u8,
+    shortage: u32,
+    group: [u8; 16],
+    reroute: [u8; 32],
+)
+    requires { ⌜ (52 * k + 52 ≤ length (now table)) × (shortage < 16777216) ⌝ }
+    ensures { λ _. ⌜ now (table .exit) ≡ placed (52 * k) 52 (now (table .entry)) (recordBytes verdict shortage group reroute) ⌝ }
+{
+    let a = 52 * k;
+    let e = a + 52;
+    put_record(&mut table[a..e], verdict, shortage, group, reroute);
+}
+
+fn wide(x: u8) -> u32
+    ensures { λ r. ⌜ (r ≡ x) × (r < 256) ⌝ }
+{
+    x as u32
+}
+
+fn read_record(rec: &[u8]) -> Shown
+    requires { ⌜ length (now rec) ≡ 52 ⌝ }
+    ensures { λ r. ⌜ Read (now (rec .entry)) r ⌝ }
+{
+    let mut group = [0u8; 16];
+    copy(&rec[4..20], &mut group);
+    Shown {
+        verdict: rec[0],
+        shortage: wide(rec[1]) * 65536 + wide(rec[2]) * 256 + wide(rec[3]),
+        group,
+    }
+}
+
+pub fn read_at(table: &[u8], k: usize) -> Shown
+    requires { ⌜ 52 * k + 52 ≤ length (now table) ⌝ }
+    ensures { λ r. ⌜ Read (recordAt (now (table .entry)) k) r ⌝ }
+{
+    let a = 52 * k;
+    let e = a + 52;
+    read_record(&table[a..e])
+}
+
+// Byte 0 isn't 1, or the reroute names a touched branch. A byte of both is tested at once.
+fn is_listed(rec: &[u8], touched: [u8; 32]) -> bool
+    requires { ⌜ length (now rec) ≡ 52 ⌝ }
+    ensures { λ r. ⌜ r ≡ listed (now (rec .entry)) touched ⌝ }
+{
+    if rec[0] != 1 {
+        return true;
+    }
+    let mut i: usize = 0;
+    while i < 32 {
+        if (rec[20 + i] & touched[i]) != 0 {
+            return true;
+        }
+        i += 1;
+    }
+    false
+}
+
+pub fn listed_at(table: &[u8], k: usize, touched: [u8; 32]) -> bool
+    requires { ⌜ 52 * k + 52 ≤ length (now table) ⌝ }
+    ensures { λ r. ⌜ r ≡ listed (recordAt (now (table .entry)) k) touched ⌝ }
+{
+    let a = 52 * k;
+    let e = a + 52;
+    is_listed(&table[a..e], touched)
+}

@@ -1,0 +1,4 @@
+pub mod Split
+pub mod Confining
+pub mod Masking
+pub mod Replacing

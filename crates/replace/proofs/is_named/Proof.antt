@@ -1,0 +1,19 @@
+use borrow.Author.Needs.{needs}
+use mathlib.Core.Path.{ap, _∙_}
+use Prim.Native.Nat.{ℕ}
+use lib.Dec.{eqb}
+use Rattle.bits.proofs.Bits.{field-one}
+use Rattle.replace.proofs.is_named.Statement.{statement}
+use Rattle.replace.proofs.is_named.Tie as tie
+
+slice-aggregate-field : tie.Need-slice-aggregate-field
+slice-aggregate-field c = search needs
+
+field-requires : tie.Need-field-requires
+field-requires c κs = search needs
+
+returns : tie.Need-returns
+returns c = ap (λ (x : ℕ). eqb x 1) (c .field .ensures ∙ field-one _ _)
+
+pub is-named-spec : {M : Type 1} → statement M
+is-named-spec = tie.close (tie.spec slice-aggregate-field field-requires returns)

@@ -1,0 +1,3 @@
+pub mod Flow
+pub mod Verdicts
+pub mod Inside

@@ -1,0 +1,5 @@
+pub mod Judging
+pub mod Rows
+pub mod Tables
+pub mod Opening
+pub mod Ending

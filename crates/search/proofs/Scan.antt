@@ -1,0 +1,270 @@
+-- The two loops of the search: what holds between queued buses, and between the branches of one.
+use mathlib.Core.Path.{_≡_, refl, sym, subst, _∙_}
+use mathlib.Core.List.{List}
+use mathlib.Core.Logic.{_⊎_, inl, inr, ⊎-elim}
+use Prim.Native.Nat.{ℕ, _+_, _<_, _≤_, min}
+use native.Mathlib.Omega.{arith}
+use native.Mathlib.Decide.{ℕ-discrete}
+use borrow.Author.Count.{below-more}
+use borrow.Author.Tests.{lt-ltb, ltb-true}
+use lib.ListN.{length, set, replicate, length-set, getD-replicate}
+use lib.Seq.{getD-set-same, getD-set-other}
+use Rattle.rows.specs.Row.{nth}
+use Rattle.rows.proofs.Sum.{below, equal, above, side}
+use Rattle.grid.specs.Reach.{Reach, here as begun, onward as led, Reached}
+use Rattle.search.specs.Wires.{Touches, Least, Linked}
+use Rattle.search.specs.Search.{Scene, scene, Way, Arc, Step, Start, marked, Trail, Routed}
+use Rattle.search.specs.Search.Way.{forth, back}
+use Rattle.search.specs.Inside.{Leads, Onward, Tree, Seeded}
+use Rattle.search.specs.declared.Wires.{Wires}
+use Rattle.search.specs.declared.Seeds.{Seeds}
+use Rattle.search.specs.declared.Lead.{Lead}
+use Rattle.search.proofs.Rows.{either-place, still-positive}
+use Rattle.search.proofs.Links.{onward-least}
+use Rattle.search.proofs.Tree.{positive, New, link, fit-q, grow, marked-reached}
+use Rattle.search.proofs.Route.{trail-of, room-of}
+
+-- Every branch of the buses before place `at` was followed.
+pub record Scan (W : Wires) (a b roles m q w : List ℕ) (at tail : ℕ) : Type 0 where
+  pub linked : Linked W
+  pub tree : Tree (scene W a b roles) m q w tail
+  pub within : at ≤ tail
+  pub seeds : (v : ℕ) → v < W .buses → nth roles v ≡ 1 → 0 < nth m v
+  pub apart : (v : ℕ) → 0 < nth m v → nth roles v ≡ 2 → ⊥
+  pub closed : (p k c v : ℕ) → p < at → Arc (scene W a b roles) k c (nth q p) v → 0 < nth m v
+
+-- So was every branch of bus `here`, at place `at`, below k, which touches `here` or is 256.
+pub record Turn (W : Wires) (a b roles m q w : List ℕ) (at tail here low k : ℕ) : Type 0 where
+  pub scan : Scan W a b roles m q w at tail
+  pub below : at < tail
+  pub is-here : nth q at ≡ here
+  pub is-low : nth w here ≡ low
+  pub top : k ≤ 256
+  pub under : k < 256 → k < W .branches
+  pub touches : k < 256 → Touches (W .first) (W .second) k here
+  pub done : (j c v : ℕ) → j < k → Arc (scene W a b roles) j c here v → 0 < nth m v
+
+arc-touches : (N : Scene) (k c u v : ℕ) → Arc N k c u v → Touches (N .first) (N .second) k u
+arc-touches N k c u v x = by (x .way)
+  where
+    by : Way c u (nth (N .first) k) (nth (N .second) k) (nth (N .ahead) k) (nth (N .back) k) v → Touches (N .first) (N .second) k u
+    by (forth p r e) = inl p
+    by (back p r e) = inr p
+
+pub scan-start : {W : Wires} (a b : List ℕ) {roles : List ℕ} {r : Seeds} → Linked W → Seeded (W .buses) roles r → Scan W a b roles (r .marks) (r .queue) (replicate 128 4294967295) 0 (r .count)
+scan-start {W} a b {roles} K S =
+    record {
+      linked = K;
+      tree = S .tree (scene W a b roles) (replicate 128 4294967295) refl refl refl (λ v h. getD-replicate 128 v 4294967295 0 h);
+      within = omega arith;
+      seeds = S .seeds;
+      apart = S .apart;
+      closed = λ p k c v d. absurd (omega arith);
+    }
+
+module _ {W : Wires} {a b roles m q w : List ℕ} {h t : ℕ} (S : Scan W a b roles m q w h t) (l : h < t) where
+  pub here-bus : nth q h < 128
+  here-bus = omega (arith, S .tree .bus h l, S .linked .wired .few)
+
+  pub turn-start : Turn W a b roles m q w h t (nth q h) (nth w (nth q h)) (nth (W .head) (nth q h))
+  turn-start =
+      let L = S .linked .lowest (nth q h) (S .tree .bus h l) in
+      record {
+        scan = S;
+        below = l;
+        is-here = refl;
+        is-low = refl;
+        top = L .top;
+        under = L .under;
+        touches = L .touches;
+        done = λ j c v d x. absurd (L .none j (omega arith) d (x .below) (arc-touches (scene W a b roles) j c (nth q h) v x));
+      }
+
+module _ {W : Wires} {a b roles m q w : List ℕ} {h t here low k : ℕ} (R : Turn W a b roles m q w h t here low k) (l : k < 256) where
+  pub turn-first : nth (W .first) k < 128
+  turn-first = omega (arith, R .scan .linked .wired .first-in k (R .under l), R .scan .linked .wired .few)
+
+  pub turn-second : nth (W .second) k < 128
+  turn-second = omega (arith, R .scan .linked .wired .second-in k (R .under l), R .scan .linked .wired .few)
+
+module _ {W : Wires} {a b roles m q w : List ℕ} {h t here low k : ℕ} {r : Lead} (R : Turn W a b roles m q w h t here low k) (l : k < 256)
+    (S : Leads here (nth (W .first) k) (nth (W .second) k) (nth a k) (nth b k) r) where
+  here-marked : 0 < nth m here
+  here-marked = subst (λ (v : ℕ). 0 < nth m v) (R .is-here) (positive (scene W a b roles) m q w h (R .scan .tree .place h (R .below)))
+
+  -- the branch leads from `here` to the bus of `r`
+  way : Way (r .spare) here (nth (W .first) k) (nth (W .second) k) (nth a k) (nth b k) (r .bus)
+  way = by (ℕ-discrete (nth (W .first) k) here) (R .touches l)
+    where
+      by : Dec (nth (W .first) k ≡ here) → Touches (W .first) (W .second) k here → Way (r .spare) here (nth (W .first) k) (nth (W .second) k) (nth a k) (nth b k) (r .bus)
+      by (yes e) g = forth e (sym (S .at-first e .0)) (sym (S .at-first e .1))
+      by (no n) (inl e) = absurd (n e)
+      by (no n) (inr e) = back e (sym (S .at-second n .0)) (sym (S .at-second n .1))
+
+  to-bus : r .bus < W .buses
+  to-bus = by way
+    where
+      by : Way (r .spare) here (nth (W .first) k) (nth (W .second) k) (nth a k) (nth b k) (r .bus) → r .bus < W .buses
+      by (forth p g e) = rw (← g) (R .scan .linked .wired .second-in k (R .under l))
+      by (back p g e) = rw (← g) (R .scan .linked .wired .first-in k (R .under l))
+
+  pub to-row : r .bus < 128
+  to-row = omega (arith, to-bus, R .scan .linked .wired .few)
+
+  -- and to no other bus that is not marked yet
+  covers : (c v : ℕ) → Arc (scene W a b roles) k c here v → (0 < nth m v) ⊎ ((r .bus ≡ v) × (r .spare ≡ c))
+  covers c v x = pick (ℕ-discrete v here)
+    where
+      ways : (v ≡ here → ⊥) → Dec (nth (W .first) k ≡ here) → Way c here (nth (W .first) k) (nth (W .second) k) (nth a k) (nth b k) v → (r .bus ≡ v) × (r .spare ≡ c)
+      ways d (yes e) (forth p g s) = (S .at-first e .0 ∙ g, S .at-first e .1 ∙ s)
+      ways d (yes e) (back p g s) = absurd (d (sym g ∙ e))
+      ways d (no n) (forth p g s) = absurd (n p)
+      ways d (no n) (back p g s) = (S .at-second n .0 ∙ g, S .at-second n .1 ∙ s)
+
+      pick : Dec (v ≡ here) → (0 < nth m v) ⊎ ((r .bus ≡ v) × (r .spare ≡ c))
+      pick (yes e) = inl (rw e here-marked)
+      pick (no d) = inr (ways d (ℕ-discrete (nth (W .first) k) here) (x .way))
+
+  pub next : (k′ : ℕ) → Onward here (nth (W .first) k) (nth (W .«after_first») k) (nth (W .«after_second») k) k′ → Least (W .branches) (W .first) (W .second) (k + 1) here k′
+  next k′ O = onward-least W (R .scan .linked) k here k′ (R .under l) (R .touches l) O
+
+  -- to the next branch of `here`; marks, queue and rooms may have grown
+  step : (m′ q′ w′ : List ℕ) (t′ k′ : ℕ) → Scan W a b roles m′ q′ w′ h t′ → h < t′ → nth q′ h ≡ here → nth w′ here ≡ low → ((v : ℕ) → 0 < nth m v → 0 < nth m′ v)
+      → ((c v : ℕ) → Arc (scene W a b roles) k c here v → 0 < nth m′ v) → Least (W .branches) (W .first) (W .second) (k + 1) here k′ → Turn W a b roles m′ q′ w′ h t′ here low k′
+  step m′ q′ w′ t′ k′ C d e e′ wid last L = record { scan = C; below = d; is-here = e; is-low = e′; top = L .top; under = L .under; touches = L .touches; done = each }
+    where
+      each : (j c v : ℕ) → j < k′ → Arc (scene W a b roles) j c here v → 0 < nth m′ v
+      each j c v d′ x = elim (side j k) [
+        | below i ↦ wid v (R .done j c v i x)
+        | equal i ↦ last c v (subst (λ (i : ℕ). Arc (scene W a b roles) i c here v) i x)
+        | above i ↦ absurd (L .none j (omega arith) d′ (x .below) (arc-touches (scene W a b roles) j c here v x))
+      ]
+
+  -- a branch that brings nothing new: no latent capacity that way, or a bus that is marked
+  skip : (k′ : ℕ) → Onward here (nth (W .first) k) (nth (W .«after_first») k) (nth (W .«after_second») k) k′ → (0 < r .spare → nth m (r .bus) ≡ 0 → ⊥) → Turn W a b roles m q w h t here low k′
+  skip k′ O f = step m q w t k′ (R .scan) (R .below) (R .is-here) (R .is-low) (λ v g. g) last (next k′ O)
+    where
+      last : (c v : ℕ) → Arc (scene W a b roles) k c here v → 0 < nth m v
+      last c v x = ⊎-elim (λ g. g) (λ e. subst (λ (u : ℕ). 0 < nth m u) (e .0) (let n = f (rw (e .1) (x .some)) in omega arith)) (covers c v x)
+
+  pub turn-skip : (k′ : ℕ) → Onward here (nth (W .first) k) (nth (W .«after_first») k) (nth (W .«after_second») k) k′ → (0 < r .spare → nth m (r .bus) ≡ 0 → ⊥)
+      → {m₁ q₁ w₁ : List ℕ} {t₁ : ℕ} → m₁ ≡ m → q₁ ≡ q → t₁ ≡ t → w₁ ≡ w → Turn W a b roles m₁ q₁ w₁ h t₁ here low k′
+  turn-skip k′ O f i j l′ i′ = rw (i, j, l′, i′) (skip k′ O f)
+
+  -- a bus that is new
+  module _ (some : 0 < r .spare) (z : nth m (r .bus) ≡ 0) (least : ℕ) (is-least : least ≡ min low (r .spare)) where
+    new-room : nth (set w (r .bus) least) (r .bus) ≡ least
+    new-room = getD-set-same w (r .bus) least 0 (omega (arith, to-row, R .scan .tree .wide))
+
+    keep : (v : ℕ) → (v ≡ r .bus → ⊥) → nth (set w (r .bus) least) v ≡ nth w v
+    keep v n = getD-set-other w (r .bus) v least 0 n
+
+    long-w : length (set w (r .bus) least) ≡ 128
+    long-w = length-set w (r .bus) least ∙ R .scan .tree .wide
+
+    arc : Arc (scene W a b roles) k (r .spare) (nth q h) (r .bus)
+    arc = record { below = R .under l; some = some; way = rw (R .is-here) way }
+
+    new-link : New (scene W a b roles) q w t (r .bus) (k + 2) (nth (set w (r .bus) least) (r .bus))
+    new-link = link h k (r .spare) (R .below) arc refl (rw (new-room, R .is-here, R .is-low) is-least)
+
+    pub turn-room : t < 128
+    turn-room = omega (arith, fit-q (scene W a b roles) m q w (set w (r .bus) least) t (r .bus) (k + 2) (R .scan .tree) to-bus z (omega arith) long-w keep, R .scan .tree .slots)
+
+    pub turn-tree : Tree (scene W a b roles) (set m (r .bus) (k + 2)) (set q t (r .bus)) (set w (r .bus) least) (t + 1)
+    turn-tree = grow (scene W a b roles) m q w (set w (r .bus) least) t (r .bus) (k + 2) (R .scan .tree) to-bus z (omega arith) long-w keep new-link
+
+    to-in : r .bus < length m
+    to-in = omega (arith, to-row, R .scan .tree .long)
+
+    wider : (v : ℕ) → 0 < nth m v → 0 < nth (set m (r .bus) (k + 2)) v
+    wider v g = still-positive m (r .bus) (k + 2) v to-in (omega arith) g
+
+    to-marked : 0 < nth (set m (r .bus) (k + 2)) (r .bus)
+    to-marked = rw (getD-set-same m (r .bus) (k + 2) 0 to-in) (omega arith)
+
+    pub turn-hit : nth roles (r .bus) ≡ 2 → Routed (scene W a b roles) (set m (r .bus) (k + 2)) (r .bus) least
+    turn-hit g =
+        record {
+          bus = to-bus;
+          goal = g;
+          some = rw new-room at (room-of (scene W a b roles) (set m (r .bus) (k + 2)) (set q t (r .bus)) (set w (r .bus) least) (t + 1) turn-tree (r .bus) to-marked);
+          trail = found .0;
+          origin = found .1;
+        }
+      where
+        found : (x : Trail (W .branches) (W .first) (W .second) a b (set m (r .bus) (k + 2)) (r .bus) least) × Start (scene W a b roles) (x .from)
+        found =
+            subst
+            (λ (y : ℕ). (x : Trail (W .branches) (W .first) (W .second) a b (set m (r .bus) (k + 2)) (r .bus) y) × Start (scene W a b roles) (x .from))
+            new-room
+            (trail-of (scene W a b roles) (set m (r .bus) (k + 2)) (set q t (r .bus)) (set w (r .bus) least) (t + 1) turn-tree (r .bus) to-marked)
+
+    queue-old : (p : ℕ) → p < t → nth (set q t (r .bus)) p ≡ nth q p
+    queue-old p d = getD-set-other q t p (r .bus) 0 (omega arith)
+
+    turn-scan : (nth roles (r .bus) ≡ 2 → ⊥) → Scan W a b roles (set m (r .bus) (k + 2)) (set q t (r .bus)) (set w (r .bus) least) h (t + 1)
+    turn-scan f =
+        record {
+          linked = R .scan .linked;
+          tree = turn-tree;
+          within = omega (arith, R .below);
+          seeds = λ v d s. wider v (R .scan .seeds v d s);
+          apart = λ v g. ⊎-elim (λ e. rw e f) (λ g′. R .scan .apart v g′) (either-place m (r .bus) (k + 2) v g);
+          closed = λ p j c v d x. wider v (R .scan .closed p j c v d (rw (queue-old p (omega (arith, R .below))) at x));
+        }
+
+    turn-done : (c v : ℕ) → Arc (scene W a b roles) k c here v → 0 < nth (set m (r .bus) (k + 2)) v
+    turn-done c v x = ⊎-elim (wider v) (λ e. subst (λ (u : ℕ). 0 < nth (set m (r .bus) (k + 2)) u) (e .0) to-marked) (covers c v x)
+
+    here-old : here ≡ r .bus → ⊥
+    here-old e = let g : 0 < nth m (r .bus) = subst (λ (v : ℕ). 0 < nth m v) e here-marked in omega arith
+
+    pub turn-mark : (k′ : ℕ) → Onward here (nth (W .first) k) (nth (W .«after_first») k) (nth (W .«after_second») k) k′ → (nth roles (r .bus) ≡ 2 → ⊥)
+        → {m₁ q₁ w₁ : List ℕ} {t₁ : ℕ} → m₁ ≡ set m (r .bus) (k + 2) → q₁ ≡ set q t (r .bus) → t₁ ≡ t + 1 → w₁ ≡ set w (r .bus) least → Turn W a b roles m₁ q₁ w₁ h t₁ here low k′
+    turn-mark k′ O f i j l′ i′ =
+        rw (i, j, l′, i′) (step
+        (set m (r .bus) (k + 2))
+        (set q t (r .bus))
+        (set w (r .bus) least)
+        (t + 1)
+        k′
+        (turn-scan f)
+        (omega (arith, R .below))
+        (queue-old h (R .below) ∙ R .is-here)
+        (keep here here-old ∙ R .is-low)
+        wider
+        turn-done
+        (next k′ O))
+
+pub turn-end : {W : Wires} {a b roles m q w : List ℕ} {h t here low k : ℕ} → Turn W a b roles m q w h t here low k → 256 ≤ k → Scan W a b roles m q w (h + 1) t
+turn-end {W} {a} {b} {roles} {m} {q} {w} {h} {t} {here} {low} {k} R l =
+    record {
+      linked = R .scan .linked;
+      tree = R .scan .tree;
+      within = omega (arith, R .below);
+      seeds = R .scan .seeds;
+      apart = R .scan .apart;
+      closed =
+          λ p j c v d x. below-more (λ (i : ℕ). Arc (scene W a b roles) j c (nth q i) v → 0 < nth m v) h (λ i d′ x′. R .scan .closed i j c v d′ x′) (λ x′. last j c v (rw (R .is-here) at x′)) p d x;
+    }
+  where
+    last : (j c v : ℕ) → Arc (scene W a b roles) j c here v → 0 < nth m v
+    last j c v x = R .done j c v (omega (arith, x .below, R .scan .linked .wired .size)) x
+
+-- With every queued bus done, the marked buses are those reached.
+pub scan-reached : {W : Wires} {a b roles m q w : List ℕ} {h t : ℕ} → Scan W a b roles m q w h t → t ≤ h → Reached (Step (scene W a b roles)) (Start (scene W a b roles)) (W .buses) (marked m)
+scan-reached {W} {a} {b} {roles} {m} {q} {w} {h} {t} S l =
+    record {
+      sound = λ v d g. marked-reached (scene W a b roles) m q w t (S .tree) v (ltb-true 0 (nth m v) g);
+      complete = λ v r. lt-ltb 0 (nth m v) (all-marked r);
+    }
+  where
+    shut : (u v : ℕ) → 0 < nth m u → Step (scene W a b roles) u v → 0 < nth m v
+    shut u v g s =
+        let r : (p : ℕ) × (p < t) × (nth q p ≡ u) = S .tree .held u g in
+        S .closed (r .0) (s .branch) (s .capacity) v (omega (arith, r .1)) (rw (r .2) (s .arc))
+
+    all-marked : {v : ℕ} → Reach (Step (scene W a b roles)) (Start (scene W a b roles)) v → 0 < nth m v
+    all-marked (begun s) = S .seeds _ (s .bus) (s .role)
+    all-marked (led {u} {v} r s) = shut u v (all-marked r) s

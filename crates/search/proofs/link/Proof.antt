@@ -1,0 +1,111 @@
+-- The branches from k on are linked; k falls.
+use borrow.Author.Needs.{needs}
+use native.Mathlib.Omega.{arith}
+use Rattle.search.proofs.Links.{Chained, chained-none, chained-end, chain-first, chain-second, chain-falls}
+use Rattle.search.proofs.link.Statement.{statement}
+use Rattle.search.proofs.link.Tie as tie
+
+abbrev Inv-loop : tie.InvT-loop
+Inv-loop buses branches first second head₀ after-first₀ after-second₀ k₀ head after-first after-second k = Chained buses branches first second head after-first after-second k
+
+abbrev μ-loop : tie.MeasureT-loop
+μ-loop buses branches first second head₀ after-first₀ after-second₀ k₀ head after-first after-second k = k
+
+loop-holds : tie.Need-loop-holds Inv-loop μ-loop
+loop-holds c = chained-none (c .pre)
+
+sub-k : tie.Need-sub-k Inv-loop μ-loop
+sub-k c = omega arith
+
+array-read-a : tie.Need-array-read-a Inv-loop μ-loop
+array-read-a c = omega arith
+
+cast-a : tie.Need-cast-a Inv-loop μ-loop
+cast-a c = search needs
+
+array-read-b : tie.Need-array-read-b Inv-loop μ-loop
+array-read-b c = omega arith
+
+cast-b : tie.Need-cast-b Inv-loop μ-loop
+cast-b c = search needs
+
+mul-after-first : tie.Need-mul-after-first Inv-loop μ-loop
+mul-after-first c = omega (arith, chain-first (c .before .loop .inv) (omega arith))
+
+array-read-after-first : tie.Need-array-read-after-first Inv-loop μ-loop
+array-read-after-first c = omega (arith, chain-first (c .before .loop .inv) (omega arith))
+
+mul-after-first-2 : tie.Need-mul-after-first-2 Inv-loop μ-loop
+mul-after-first-2 c = omega arith
+
+array-write-after-first : tie.Need-array-write-after-first Inv-loop μ-loop
+array-write-after-first c = omega arith
+
+mul-after-second : tie.Need-mul-after-second Inv-loop μ-loop
+mul-after-second c = omega (arith, chain-second (c .before .loop .inv) (omega arith))
+
+array-read-after-second : tie.Need-array-read-after-second Inv-loop μ-loop
+array-read-after-second c = omega (arith, chain-second (c .before .loop .inv) (omega arith))
+
+mul-after-second-2 : tie.Need-mul-after-second-2 Inv-loop μ-loop
+mul-after-second-2 c = omega arith
+
+array-write-after-second : tie.Need-array-write-after-second Inv-loop μ-loop
+array-write-after-second c = omega arith
+
+cast-head : tie.Need-cast-head Inv-loop μ-loop
+cast-head c = omega arith
+
+mul-head : tie.Need-mul-head Inv-loop μ-loop
+mul-head c = omega (arith, chain-first (c .before .loop .inv) (omega arith))
+
+array-write-head : tie.Need-array-write-head Inv-loop μ-loop
+array-write-head c = omega (arith, chain-first (c .before .loop .inv) (omega arith))
+
+cast-head-2 : tie.Need-cast-head-2 Inv-loop μ-loop
+cast-head-2 c = omega arith
+
+mul-head-2 : tie.Need-mul-head-2 Inv-loop μ-loop
+mul-head-2 c = omega (arith, chain-second (c .before .loop .inv) (omega arith))
+
+array-write-head-2 : tie.Need-array-write-head-2 Inv-loop μ-loop
+array-write-head-2 c = omega (arith, chain-second (c .before .loop .inv) (omega arith))
+
+loop-less : tie.Need-loop-less Inv-loop μ-loop
+loop-less c = omega arith
+
+loop-again : tie.Need-loop-again Inv-loop μ-loop
+loop-again c = chain-falls (c .before .loop .inv) (omega arith)
+
+returns : tie.Need-returns Inv-loop μ-loop
+returns c = chained-end (c .before .loop .inv) (omega arith)
+
+pub link-spec : {M : Type 1} → statement M
+link-spec =
+    tie.close
+    (tie.spec
+    Inv-loop
+    μ-loop
+    loop-holds
+    sub-k
+    array-read-a
+    cast-a
+    array-read-b
+    cast-b
+    mul-after-first
+    array-read-after-first
+    mul-after-first-2
+    array-write-after-first
+    mul-after-second
+    array-read-after-second
+    mul-after-second-2
+    array-write-after-second
+    cast-head
+    mul-head
+    array-write-head
+    cast-head-2
+    mul-head-2
+    array-write-head-2
+    loop-less
+    loop-again
+    returns)

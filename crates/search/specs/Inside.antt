@@ -1,0 +1,83 @@
+-- What the inner functions of the search promise.
+use mathlib.Core.Path.{_≡_}
+use mathlib.Core.List.{List, [], _∷_}
+use Prim.Native.Nat.{ℕ, zero, suc, _+_, _-_, _/_, _%_, _^_, _<_, _≤_, min}
+use lib.ListN.{length, replicate}
+use Rattle.rows.specs.Row.{nth}
+use Rattle.search.specs.Search.{Scene, Arc, Bits}
+use Rattle.search.specs.declared.Work.{Work}
+use Rattle.search.specs.declared.Search.{Search}
+use Rattle.search.specs.declared.Search.the-variants.{Route, Group}
+use Rattle.search.specs.declared.Found.{Found}
+use Rattle.search.specs.declared.Seeds.{Seeds}
+use Rattle.search.specs.declared.Lead.{Lead}
+
+-- `leads`: from a bus at one end of a branch to the other end, with the latent capacity that way.
+pub record Leads (here a b x y : ℕ) (r : Lead) : Type 0 where
+  pub at-first : a ≡ here → (r .bus ≡ b) × (r .spare ≡ x)
+  pub at-second : (a ≡ here → ⊥) → (r .bus ≡ a) × (r .spare ≡ y)
+
+-- `onward`: the next branch of a bus at one end of a branch.
+pub record Onward (here a x y r : ℕ) : Type 0 where
+  pub at-first : a ≡ here → r ≡ x
+  pub at-second : (a ≡ here → ⊥) → r ≡ y
+
+-- The bus at place p of the queue is a start, or is joined by the branch of its mark to a bus at an earlier place; w has the room of each bus.
+pub data Placed (N : Scene) (m q w : List ℕ) (p : ℕ) : Type 0 where
+  root : nth (N .roles) (nth q p) ≡ 1 → nth m (nth q p) ≡ 1 → nth w (nth q p) ≡ 4294967295 → Placed N m q w p
+  joined : (j k c : ℕ) → j < p → Arc N k c (nth q j) (nth q p) → nth m (nth q p) ≡ k + 2 → nth w (nth q p) ≡ min (nth w (nth q j)) c → Placed N m q w p
+
+abbrev pub none : ℕ → ℕ
+none zero = 1
+none (suc n) = 0
+
+-- How many of a row are 0.
+abbrev pub zeros : List ℕ → ℕ
+zeros [] = 0
+zeros (x ∷ xs) = none x + zeros xs
+
+-- What the marks, the queue and the rooms hold after t buses were queued.
+pub record Tree (N : Scene) (m q w : List ℕ) (t : ℕ) : Type 0 where
+  pub long : length m ≡ 128
+  pub slots : length q ≡ 128
+  pub wide : length w ≡ 128
+  pub small : N .buses ≤ 128
+  pub count : zeros m + t ≡ 128
+  pub bus : (p : ℕ) → p < t → nth q p < N .buses
+  pub place : (p : ℕ) → p < t → Placed N m q w p
+  pub held : (v : ℕ) → 0 < nth m v → (p : ℕ) × (p < t) × (nth q p ≡ v)
+  pub once : (p p′ : ℕ) → p < p′ → p′ < t → nth q p ≡ nth q p′ → ⊥
+
+-- `seed`: it asks for marks of 0, and gives a tree of starts alone, whatever the branches are, in which every start is marked and no goal.
+pub record Blank (n : ℕ) (w : Work) : Type 0 where
+  pub few : n ≤ 128
+  pub blank : w .marks ≡ replicate 128 0
+
+pub record Seeded (n : ℕ) (roles : List ℕ) (r : Seeds) : Type 0 where
+  pub tree : (N : Scene) (w : List ℕ) → N .buses ≡ n → N .roles ≡ roles → length w ≡ 128 → ((v : ℕ) → v < 128 → nth w v ≡ 4294967295) → Tree N (r .marks) (r .queue) w (r .count)
+  pub seeds : (v : ℕ) → v < n → nth roles v ≡ 1 → 0 < nth (r .marks) v
+  pub apart : (v : ℕ) → 0 < nth (r .marks) v → nth roles v ≡ 2 → ⊥
+
+-- 1 for a number above 0.
+abbrev pub flagOf : ℕ → ℕ
+flagOf zero = 0
+flagOf (suc n) = 1
+
+-- `byte`: bit 7 - i of r is the flag of the mark at i from `at`.
+pub record Byte (m : List ℕ) (at r : ℕ) : Type 0 where
+  pub low : r < 256
+  pub bit : (i : ℕ) → i < 8 → r / 2 ^ (7 - i) % 2 ≡ flagOf (nth m (at + i))
+
+abbrev pub Shown : Search → List ℕ → List ℕ → Type 0
+Shown (Route v r) m g = g ≡ replicate 16 0
+Shown Group m g = Bits m g
+
+-- `packed`: the parts of an answer, with the group's bits beside it.
+pub record Packed (answer : Search) (t : ℕ) (m q : List ℕ) (w : Work) (r : Found) : Type 0 where
+  pub same-answer : r .answer ≡ answer
+  pub same-taken : r .taken ≡ t
+  pub same-marks : r .work .marks ≡ m
+  pub same-queue : r .work .queue ≡ q
+  pub same-ahead : r .work .ahead ≡ w .ahead
+  pub same-back : r .work .back ≡ w .back
+  pub shown : Shown answer m (r .group)

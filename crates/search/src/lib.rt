@@ -1,0 +1,223 @@
+// A breadth-first search over the latent capacities of a network of at most 128 buses and 256 branches.
+// What is public here serves the crates above alone, which meet what it requires.
+ghost use Rattle.search.specs.Wires.{Wired, Wiring};
+ghost use Rattle.search.specs.Search.{Bits, Searchable, Searched};
+ghost use Rattle.search.specs.Inside.{Leads, Onward, Blank, Seeded, flagOf, Byte, Packed};
+ghost use Prim.Native.Nat.{_<_, _≤_, _+_, min};
+ghost use mathlib.Core.Path.{_≡_};
+
+// The ends of the branches, and links that give the branches of a bus in rising number; 256 is none.
+pub struct Wires {
+    pub buses: usize,
+    pub branches: usize,
+    pub first: [u8; 256],
+    pub second: [u8; 256],
+    pub head: [u16; 128],
+    pub after_first: [u16; 256],
+    pub after_second: [u16; 256],
+}
+
+// What one search works on: marks, all 0 at first, the queue, and the latent capacity of each branch either way.
+pub struct Work {
+    pub marks: [u16; 128],
+    pub queue: [u8; 128],
+    pub ahead: [u32; 256],
+    pub back: [u32; 256],
+}
+
+pub enum Search {
+    Route { goal: usize, room: u32 },
+    Group,
+}
+
+// The group's bits stand beside the answer: 16 zeros beside a route.
+pub struct Found {
+    pub answer: Search,
+    pub taken: usize,
+    pub group: [u8; 16],
+    pub work: Work,
+}
+
+struct Seeds {
+    marks: [u16; 128],
+    queue: [u8; 128],
+    count: usize,
+}
+
+struct Lead {
+    bus: usize,
+    spare: u32,
+}
+
+pub fn smaller(x: u32, y: u32) -> u32
+    ensures { λ r. ⌜ r ≡ min x y ⌝ }
+{
+    if x < y { x } else { y }
+}
+
+// From the highest branch down, so that `head` always holds the next one of its bus.
+pub fn link(buses: usize, branches: usize, first: [u8; 256], second: [u8; 256]) -> Wires
+    requires { ⌜ Wired buses branches first second ⌝ }
+    ensures { λ r. ⌜ Wiring buses branches first second r ⌝ }
+{
+    let mut head = [256u16; 128];
+    let mut after_first = [256u16; 256];
+    let mut after_second = [256u16; 256];
+    let mut k = branches;
+    while k > 0 {
+        k -= 1;
+        let a = first[k] as usize;
+        let b = second[k] as usize;
+        after_first[k] = head[a];
+        after_second[k] = head[b];
+        head[a] = k as u16;
+        head[b] = k as u16;
+    }
+    Wires {
+        buses,
+        branches,
+        first,
+        second,
+        head,
+        after_first,
+        after_second,
+    }
+}
+
+fn leads(here: usize, a: usize, b: usize, x: u32, y: u32) -> Lead
+    ensures { λ r. ⌜ Leads here a b x y r ⌝ }
+{
+    if a == here {
+        Lead { bus: b, spare: x }
+    } else {
+        Lead { bus: a, spare: y }
+    }
+}
+
+// The next branch of a bus at one end of a branch.
+pub fn onward(here: usize, a: usize, x: u16, y: u16) -> usize
+    ensures { λ r. ⌜ Onward here a x y r ⌝ }
+{
+    if a == here { x as usize } else { y as usize }
+}
+
+// Every start is marked 1 and queued.
+fn seed(buses: usize, roles: [u8; 128], work: Work) -> Seeds
+    requires { ⌜ Blank buses work ⌝ }
+    ensures { λ r. ⌜ Seeded buses roles r ⌝ }
+{
+    let mut marks = work.marks;
+    let mut queue = work.queue;
+    let mut count: usize = 0;
+    let mut v: usize = 0;
+    while v < buses {
+        if roles[v] == 1 {
+            marks[v] = 1;
+            queue[count] = v as u8;
+            count += 1;
+        }
+        v += 1;
+    }
+    Seeds {
+        marks,
+        queue,
+        count,
+    }
+}
+
+fn flag(mark: u16) -> u8
+    ensures { λ r. ⌜ r ≡ flagOf mark ⌝ }
+{
+    if mark > 0 { 1 } else { 0 }
+}
+
+// Eight marks as the bits of a byte, the first of them the highest.
+fn byte(marks: [u16; 128], at: usize) -> u8
+    requires { ⌜ at + 8 ≤ 128 ⌝ }
+    ensures { λ r. ⌜ Byte marks at r ⌝ }
+{
+    let mut x: u8 = 0;
+    let mut i: usize = 0;
+    while i < 8 {
+        x = x * 2 + flag(marks[at + i]);
+        i += 1;
+    }
+    x
+}
+
+fn bits(marks: [u16; 128]) -> [u8; 16]
+    ensures { λ r. ⌜ Bits marks r ⌝ }
+{
+    let mut group = [0u8; 16];
+    let mut j: usize = 0;
+    while j < 16 {
+        group[j] = byte(marks, 8 * j);
+        j += 1;
+    }
+    group
+}
+
+fn packed(answer: Search, taken: usize, marks: [u16; 128], queue: [u8; 128], work: Work) -> Found
+    ensures { λ r. ⌜ Packed answer taken marks queue work r ⌝ }
+{
+    let ahead = work.ahead;
+    let back = work.back;
+    let group = match answer {
+        Search::Route { goal: _, room: _ } => [0u8; 16],
+        Search::Group => bits(marks),
+    };
+    Found {
+        answer,
+        taken,
+        group,
+        work: Work {
+            marks,
+            queue,
+            ahead,
+            back,
+        },
+    }
+}
+
+// From the buses of role 1, over latent capacity, to the first bus of role 2.
+pub fn explore(wires: Wires, work: Work, roles: [u8; 128]) -> Found
+    requires { ⌜ Searchable wires work ⌝ }
+    ensures { λ r. ⌜ Searched wires work roles r ⌝ }
+{
+    let seeds = seed(wires.buses, roles, work);
+    let mut marks = seeds.marks;
+    let mut queue = seeds.queue;
+    let mut tail = seeds.count;
+    let mut room = [4294967295u32; 128];
+    let mut at: usize = 0;
+    let answer = 'scan: loop {
+        if at >= tail {
+            break 'scan Search::Group;
+        }
+        let here = queue[at] as usize;
+        let low = room[here];
+        let mut k = wires.head[here] as usize;
+        while k < 256 {
+            let a = wires.first[k] as usize;
+            let b = wires.second[k] as usize;
+            let lead = leads(here, a, b, work.ahead[k], work.back[k]);
+            let to = lead.bus;
+            if lead.spare > 0 && marks[to] == 0 {
+                let least = smaller(low, lead.spare);
+                marks[to] = (k + 2) as u16;
+                queue[tail] = to as u8;
+                room[to] = least;
+                tail += 1;
+                if roles[to] == 2 {
+                    break 'scan Search::Route {
+                        goal: to,
+                        room: least,
+                    };
+                }
+            }
+            k = onward(here, a, wires.after_first[k], wires.after_second[k]);
+        }
+        at += 1;
+    };
+    packed(answer, tail, marks, queue, work)
+}

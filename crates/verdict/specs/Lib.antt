@@ -1,0 +1,4 @@
+pub mod Case
+pub mod Excess
+pub mod Record
+pub mod Update

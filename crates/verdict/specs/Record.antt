@@ -1,0 +1,70 @@
+-- The record of a branch, 52 bytes in one table, and when a table is true.
+use mathlib.Core.Path.{_≡_}
+use mathlib.Core.Bool.{true, false}
+use mathlib.Core.List.{List}
+use mathlib.Core.Logic.{_↔_}
+use Prim.Native.Nat.{ℕ, _+_, _*_, _≤_, _<_}
+use lib.IntN.{ℤ, pos}
+use lib.ListN.{length, take, drop}
+use Rattle.rows.specs.Row.{nth}
+use Rattle.rows.specs.Bit.{has}
+use Rattle.bits.specs.Field.{Bytes}
+use Rattle.rows.specs.Sum.{Group}
+use Rattle.verdict.specs.Case.{Case, out, on, Fits}
+use Rattle.verdict.specs.Excess.{carriesNumber, Short, Carries, shortNumber}
+
+-- Record k is the part of 52 bytes from 52k.
+abbrev pub recordAt : List ℕ → ℕ → List ℕ
+recordAt table k = take 52 (drop (52 * k) table)
+
+-- Byte 0; bytes 1 to 3, high byte first; bytes 4 to 19; bytes 20 to 51.
+abbrev pub verdictOf : List ℕ → ℕ
+verdictOf rec = nth rec 0
+
+abbrev pub shortageOf : List ℕ → ℕ
+shortageOf rec = nth rec 1 * 65536 + nth rec 2 * 256 + nth rec 3
+
+-- Bus k is bit 7 - k mod 8 of byte 4 + k / 8: a bit past the sixteen bytes is 0.
+abbrev pub groupOf : List ℕ → Group
+groupOf rec = has (take 16 (drop 4 rec))
+
+abbrev pub names : List ℕ → Group
+names rec = has (take 32 (drop 20 rec))
+
+abbrev pub Zero : List ℕ → ℕ → ℕ → Type 0
+Zero rec from to = (j : ℕ) → from ≤ j → j < to → nth rec j ≡ 0
+
+-- The reroute of a carrying branch b belongs to one fitting flow of the case without b, and names exactly the branches other than b on which that flow
+-- differs from the present flow f. It is empty if b's flow is 0.
+pub record Rerouted (C : Case) (f : ℕ → ℤ) (b : ℕ) (rec : List ℕ) : Type 0 where
+  pub flow : ℕ → ℤ
+  pub fits : Fits (out C b) (C .loss-limit) flow
+  pub exactly : (j : ℕ) → j < C .branches → (names rec j ≡ true) ↔ ((j ≡ b → ⊥) × (flow j ≡ f j → ⊥))
+  pub beyond : (j : ℕ) → C .branches ≤ j → names rec j ≡ false
+  pub idle : f b ≡ pos 0 → (j : ℕ) → names rec j ≡ false
+
+-- Verdict 0: all else zero. Verdict 1: shortage and group zero. Verdict 2: reroute zero. Bits beyond the counts are 0.
+pub data Told (C : Case) (f : ℕ → ℤ) (k : ℕ) (rec : List ℕ) : Type 0 where
+  opened : C .served k ≡ false → verdictOf rec ≡ 0 → Zero rec 1 52 → Told C f k rec
+  carrying : C .served k ≡ true → Carries C k → verdictOf rec ≡ carriesNumber → Zero rec 1 20 → Rerouted C f k rec → Told C f k rec
+  lacking : C .served k ≡ true → Short C k (shortageOf rec) (groupOf rec) → verdictOf rec ≡ shortNumber C k
+      → ((i : ℕ) → C .buses ≤ i → groupOf rec i ≡ false) → Zero rec 20 52 → Told C f k rec
+
+pub record TrueRecord (C : Case) (f : ℕ → ℤ) (k : ℕ) (rec : List ℕ) : Type 0 where
+  pub long : length rec ≡ 52
+  pub bytes : Bytes rec
+  pub told : Told C f k rec
+
+-- A table is true of a case and a flow if the flow fits and every record is as defined here.
+pub record TrueTable (C : Case) (flow : List ℤ) (table : List ℕ) : Type 0 where
+  pub room : C .branches ≤ length flow
+  pub long : 52 * C .branches ≤ length table
+  pub fits : Fits C (C .limit) (on flow)
+  pub each : (k : ℕ) → k < C .branches → TrueRecord C (on flow) k (recordAt table k)
+
+-- Lent space beyond the branch count: before a call, and after it.
+pub record Beyond (C : Case) (flow : List ℤ) (table : List ℕ) (flow′ : List ℤ) (table′ : List ℕ) : Type 0 where
+  pub flow-long : length flow′ ≡ length flow
+  pub flow-rest : (k : ℕ) → C .branches ≤ k → on flow′ k ≡ on flow k
+  pub table-long : length table′ ≡ length table
+  pub table-rest : (j : ℕ) → 52 * C .branches ≤ j → nth table′ j ≡ nth table j
