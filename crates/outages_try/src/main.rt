@@ -1,0 +1,24 @@
+// Runs the list of `outages` on several inputs: each has its length in two bytes before it, the high byte first.
+ghost use Prim.Native.Nat.{_<_};
+use libc::STDIN_FILENO;
+
+fn wide(x: u8) -> usize
+    ensures { λ r. ⌜ r < 256 ⌝ }
+{
+    x as usize
+}
+
+fn main() {
+    let mut input = [0u8; 16384];
+    let n = io::read_full(STDIN_FILENO, &mut input);
+    let mut at: usize = 0;
+    while at + 2 <= n {
+        let start = at + 2;
+        let end = start + wide(input[at]) * 256 + wide(input[at + 1]);
+        if n < end {
+            return;
+        }
+        printing::print_list(&input[start..end]);
+        at = end;
+    }
+}

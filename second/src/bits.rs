@@ -1,0 +1,41 @@
+//! Fields of bits in a row of bytes, the most significant bit first.
+
+/// The bit at place `at`.
+pub fn bit(bytes: &[u8], at: usize) -> bool {
+    bytes[at / 8] >> (7 - at % 8) & 1 == 1
+}
+
+/// The field of `width` bits that starts at place `at`.
+pub fn field(bytes: &[u8], at: usize, width: usize) -> u32 {
+    (at..at + width).fold(0, |value, place| value << 1 | bit(bytes, place) as u32)
+}
+
+/// Clears the bit at place `at`.
+pub fn clear(bytes: &mut [u8], at: usize) {
+    bytes[at / 8] &= !(1 << (7 - at % 8));
+}
+
+/// Fields put one after another; bytes start as zeros, so the tail fill is zero.
+#[derive(Default)]
+pub struct Packer {
+    bytes: Vec<u8>,
+    count: usize,
+}
+
+impl Packer {
+    pub fn put(&mut self, value: u32, width: usize) {
+        assert!(width == 32 || value >> width == 0, "{value} is wider than {width} bits");
+        for shift in (0..width).rev() {
+            if self.count % 8 == 0 {
+                self.bytes.push(0);
+            }
+            let last = self.bytes.len() - 1;
+            self.bytes[last] |= ((value >> shift & 1) as u8) << (7 - self.count % 8);
+            self.count += 1;
+        }
+    }
+
+    pub fn bytes(self) -> Vec<u8> {
+        self.bytes
+    }
+}

@@ -1,0 +1,110 @@
+//! Every group tried against the max-flow, on many random small books; reroutes against all whole flows.
+
+use second::book::{pack, rows, unpack, write};
+use second::network::Network;
+use second::random::Random;
+use second::random_books::{served, strained};
+use second::reroutes::{confined, exactly, Exactly};
+use second::{cuts, groups};
+
+#[test]
+fn both_methods_agree_on_small_books() {
+    let mut random = Random(1);
+    let (mut overloaded, mut shorts, mut carries) = (0, 0, 0);
+    for round in 0..6000 {
+        let buses = 1 + random.below(if round % 10 == 0 { 12 } else { 7 });
+        let count = random.below(2 * buses + 3);
+        let book = if round % 3 == 0 { strained(&mut random, buses, count) } else { served(&mut random, buses, count) };
+        let network = Network::of(&book);
+        let excess = groups::base_excess(&network);
+        assert_eq!(excess, cuts::base_excess(&network), "{book:?}");
+        assert_eq!(excess.amount == 0, cuts::fitting_flow(&network).is_some_and(|flow| network.fits(&flow)));
+        if excess.amount > 0 {
+            overloaded += 1;
+            continue;
+        }
+        for branch in 0..network.lines.len() {
+            let verdict = groups::verdict(&network, branch);
+            assert_eq!(verdict, cuts::verdict(&network, branch), "branch {branch} of {book:?}");
+            match verdict {
+                second::network::Verdict::Carries => carries += 1,
+                second::network::Verdict::Short(_) => shorts += 1,
+                second::network::Verdict::Out => {}
+            }
+        }
+    }
+    assert!(overloaded > 300 && shorts > 3000 && carries > 3000, "{overloaded} {shorts} {carries}");
+}
+
+#[test]
+fn books_come_back_from_their_bytes() {
+    let mut random = Random(2);
+    for _ in 0..2000 {
+        let (buses, count) = second::random_books::counts(&mut random);
+        let book = strained(&mut random, buses, count);
+        let bytes = pack(&book);
+        assert_eq!(unpack(&bytes).as_ref(), Ok(&book));
+        let again = write(buses, book.branches.len(), book.factor, &book.injections, &rows(&book), bytes.len());
+        assert_eq!(again.as_ref(), Ok(&bytes));
+        assert_eq!(write(buses, book.branches.len(), book.factor, &book.injections, &rows(&book), bytes.len() - 1), Err(8));
+    }
+}
+
+/// Every whole flow of a network without `branch` within the limits that fits, one by one.
+fn all_flows(network: &Network, branch: usize) -> Vec<Vec<i64>> {
+    let without = network.without(branch);
+    let mut flows: Vec<Vec<i64>> = vec![Vec::new()];
+    for line in &without.lines {
+        let most = if line.served { line.limit } else { 0 };
+        flows = flows.into_iter().flat_map(|flow| (-most..=most).map(move |kw| [&flow[..], &[kw]].concat())).collect();
+    }
+    flows.retain(|flow| without.fits(flow));
+    flows
+}
+
+#[test]
+fn reroutes_are_decided_as_all_whole_flows_decide_them() {
+    let mut random = Random(3);
+    let (mut yes, mut no, mut signs) = (0, 0, 0);
+    for _ in 0..1500 {
+        let (buses, count) = (2 + random.below(4), 1 + random.below(6));
+        let mut book = served(&mut random, buses, count);
+        book.branches.iter_mut().for_each(|branch| branch.kva = branch.kva.min(2));
+        book.factor = 1000;
+        book.injections = vec![0; buses];
+        let flow: Vec<i64> = book.branches.iter().map(|b| if b.served { random.between(-(b.kva as i64), b.kva as i64) } else { 0 }).collect();
+        for (b, kw) in book.branches.iter().zip(&flow) {
+            book.injections[b.first] += kw;
+            book.injections[b.second] -= kw;
+        }
+        let network = Network::of(&book);
+        assert!(network.fits(&flow));
+        let branch = random.below(count);
+        if !network.lines[branch].served {
+            continue;
+        }
+        let flows = all_flows(&network, branch);
+        for mask in 0..1usize << count {
+            let named: Vec<usize> = (0..count).filter(|k| mask >> k & 1 == 1).collect();
+            let differs = |other: &Vec<i64>| (0..count).filter(|&k| k != branch && other[k] != flow[k]).collect::<Vec<_>>();
+            let within = flows.iter().any(|other| differs(other).iter().all(|k| named.contains(k)));
+            let found = confined(&network, &flow, branch, &named);
+            assert_eq!(found.is_some(), within);
+            assert!(found.is_none_or(|found| flows.contains(&found) && differs(&found).iter().all(|k| named.contains(k))));
+            let due = flows.iter().any(|other| differs(other) == named);
+            match exactly(&network, &flow, branch, &named) {
+                Exactly::Yes(witness) => {
+                    assert!(due && flows.contains(&witness) && differs(&witness) == named);
+                    yes += 1;
+                }
+                Exactly::No => {
+                    assert!(!due, "{named:?} of {branch}, {flow:?}, {book:?}");
+                    no += 1;
+                    signs += within as usize;
+                }
+                Exactly::Undecided => panic!("undecided on a small book"),
+            }
+        }
+    }
+    assert!(yes > 1000 && no > 1000 && signs > 100, "{yes} {no} {signs}");
+}
