@@ -26,7 +26,7 @@ impl Packer {
     pub fn put(&mut self, value: u32, width: usize) {
         assert!(width == 32 || value >> width == 0, "{value} is wider than {width} bits");
         for shift in (0..width).rev() {
-            if self.count % 8 == 0 {
+            if self.count.is_multiple_of(8) {
                 self.bytes.push(0);
             }
             let last = self.bytes.len() - 1;

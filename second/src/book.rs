@@ -89,7 +89,11 @@ fn unpack_branches(bytes: &[u8], buses: usize, count: usize) -> Result<Vec<Branc
                 kva: bits::field(bytes, at + 14, 20),
                 served: bits::bit(bytes, at + 34),
             };
-            if branch_allowed(&branch, buses) { Ok(branch) } else { Err(5) }
+            if branch_allowed(&branch, buses) {
+                Ok(branch)
+            } else {
+                Err(5)
+            }
         })
         .collect()
 }
@@ -130,7 +134,8 @@ pub fn write(buses: usize, count: usize, factor: u32, injections: &[i64], branch
     if injections.iter().any(|injection| injection.abs() > LARGEST) {
         return Err(4);
     }
-    let branches: Vec<Branch> = branches[..4 * count].chunks(4).map(|row| written_branch(row, buses)).collect::<Result<_, _>>()?;
+    let branches: Vec<Branch> =
+        branches[..4 * count].chunks(4).map(|row| written_branch(row, buses)).collect::<Result<_, _>>()?;
     if injections.iter().sum::<i64>() != 0 {
         return Err(7);
     }
@@ -142,7 +147,11 @@ pub fn write(buses: usize, count: usize, factor: u32, injections: &[i64], branch
 
 fn written_branch(row: &[u32], buses: usize) -> Result<Branch, u8> {
     let branch = Branch { first: row[0] as usize, second: row[1] as usize, kva: row[2], served: row[3] == 1 };
-    if row[3] <= 1 && branch_allowed(&branch, buses) { Ok(branch) } else { Err(5) }
+    if row[3] <= 1 && branch_allowed(&branch, buses) {
+        Ok(branch)
+    } else {
+        Err(5)
+    }
 }
 
 /// The four numbers a branch: first, second, kVA, status.

@@ -20,8 +20,10 @@ pub fn excess_of(network: &Network, group: Group, lost: Option<usize>) -> i64 {
 /// The largest excess over the groups that `counts`, and the group contained in every other that reaches it.
 fn largest(network: &Network, lost: Option<usize>, counts: impl Fn(Group) -> bool) -> Excess {
     assert!(network.buses() <= MOST_BUSES);
-    let tried: Vec<(i64, Group)> =
-        (0..1u128 << network.buses()).filter(|&group| counts(group)).map(|group| (excess_of(network, group, lost), group)).collect();
+    let tried: Vec<(i64, Group)> = (0..1u128 << network.buses())
+        .filter(|&group| counts(group))
+        .map(|group| (excess_of(network, group, lost), group))
+        .collect();
     let amount = tried.iter().map(|pair| pair.0).max().expect("some group counts");
     let reaching = tried.iter().filter(|pair| pair.0 == amount).map(|pair| pair.1);
     let group = reaching.clone().fold(Group::MAX, |inner, group| inner & group);
@@ -40,5 +42,9 @@ pub fn verdict(network: &Network, branch: usize) -> Verdict {
         return Verdict::Out;
     }
     let excess = largest(network, Some(branch), |group| holds(group, line.first) != holds(group, line.second));
-    if excess.amount > 0 { Verdict::Short(excess) } else { Verdict::Carries }
+    if excess.amount > 0 {
+        Verdict::Short(excess)
+    } else {
+        Verdict::Carries
+    }
 }

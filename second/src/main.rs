@@ -1,14 +1,22 @@
 //! The commands of the second opinion.
 
-use second::{book, list, shelf, text};
+use second::{book, fixed, judge, list, make, reference, selftest, shelf, stored, text, trials};
 use std::fs;
+use std::io::Write;
 use std::path::Path;
 use std::process::ExitCode;
 
 const USAGE: &str = "second outages FILE            document 01's list for a book file
 second book TEXT FILE          makes a book file from its text form
 second text FILE               prints the text form of a book file
-second files DIR               writes DIR/books and DIR/expected again";
+second files DIR               writes DIR/books, DIR/expected and DIR/streams again
+second stream SEED             a random trial stream, to standard output
+second stored                  the stored stream, to standard output
+second print STREAM            what document 01 fixes of the output, `?` where it leaves a choice
+second answer STREAM           a whole trial output with our own choice of flows and reroutes
+second judge STREAM OUTPUT     judges the output of a trial
+second try PROGRAM N [SEED]    judges PROGRAM on N random streams (`-` for our own answers)
+second selftest                plants faults in copied outputs and shows that each is found";
 
 fn main() -> ExitCode {
     let words: Vec<String> = std::env::args().skip(1).collect();
@@ -35,15 +43,42 @@ fn run(words: &[&str]) -> Result<bool, String> {
         ["book", from, file] => make_book(from, file)?,
         ["text", file] => print!("{}", text::print(&book::unpack(&read(file)?).map_err(|number| format!("refused {number}"))?)),
         ["files", dir] => files(Path::new(dir))?,
+        ["stream", seed] => put(&make::stream(number(seed)?))?,
+        ["stored"] => put(&stored::stream())?,
+        ["print", stream] => print!("{}", fixed::fixed(&read(stream)?)),
+        ["answer", stream] => print!("{}", reference::output(&read(stream)?)),
+        ["judge", stream, output] => return judged(&read(stream)?, &read(output)?),
+        ["selftest"] => return Ok(selftest::selftest()),
+        ["try", program, count] => return trials::many(program, number(count)?, 1),
+        ["try", program, count, seed] => return trials::many(program, number(count)?, number(seed)?),
         _ => return Err(USAGE.into()),
     }
     Ok(true)
 }
 
+fn number(word: &str) -> Result<u64, String> {
+    word.parse().map_err(|_| format!("not a number: {word}"))
+}
+
+fn put(bytes: &[u8]) -> Result<(), String> {
+    std::io::stdout().write_all(bytes).map_err(|problem| problem.to_string())
+}
+
+fn judged(stream: &[u8], output: &[u8]) -> Result<bool, String> {
+    let (tally, verdict) = judge::judge(stream, &String::from_utf8_lossy(output));
+    print!("{tally}");
+    match &verdict {
+        Ok(()) => println!("good"),
+        Err(fault) => println!("fault: {fault}"),
+    }
+    Ok(verdict.is_ok())
+}
+
 fn make_book(from: &str, file: &str) -> Result<(), String> {
     let words = String::from_utf8(read(from)?).map_err(|_| "not text".to_string())?;
     let made = text::parse(&words)?;
-    let bytes = book::write(made.injections.len(), made.branches.len(), made.factor, &made.injections, &book::rows(&made), usize::MAX);
+    let bytes =
+        book::write(made.injections.len(), made.branches.len(), made.factor, &made.injections, &book::rows(&made), usize::MAX);
     write(Path::new(file), &bytes.map_err(|number| format!("refused {number}"))?)
 }
 
@@ -55,5 +90,5 @@ fn files(dir: &Path) -> Result<(), String> {
         }
         write(&dir.join("expected").join(format!("{name}.txt")), list::list(&bytes).as_bytes())?;
     }
-    Ok(())
+    write(&dir.join("streams").join("stored.stream"), &stored::stream())
 }

@@ -37,6 +37,18 @@ impl Graph {
         self.arcs[arc].room
     }
 
+    pub fn rooms(&self) -> Vec<i64> {
+        self.arcs.iter().map(|arc| arc.room).collect()
+    }
+
+    pub fn set_rooms(&mut self, rooms: &[i64]) {
+        self.arcs.iter_mut().zip(rooms).for_each(|(arc, &room)| arc.room = room);
+    }
+
+    pub fn set_room(&mut self, arc: usize, room: i64) {
+        self.arcs[arc].room = room;
+    }
+
     fn set_levels(&mut self, source: usize) {
         self.level = vec![usize::MAX; self.at.len()];
         self.level[source] = 0;

@@ -3,7 +3,7 @@
 use crate::answer::Answer;
 use crate::bits;
 use crate::book;
-use crate::cuts;
+use crate::cuts::{self, Cutter};
 use crate::network::Network;
 use crate::record;
 use crate::reroutes;
@@ -30,7 +30,11 @@ pub fn allowed(lent: &Lent, branch: usize) -> Result<Network, Answer> {
         return Err(Answer::refused(11));
     }
     let excess = cuts::base_excess(&network.without(branch));
-    if excess.amount > 0 { Err(Answer::overloaded(excess)) } else { Ok(network) }
+    if excess.amount > 0 {
+        Err(Answer::overloaded(excess))
+    } else {
+        Ok(network)
+    }
 }
 
 /// The book with one status bit cleared and no other.
@@ -44,8 +48,8 @@ pub fn changed_book(bytes: &[u8], branch: usize) -> Vec<u8> {
 #[derive(Default, Debug)]
 pub struct Judged {
     pub faults: Vec<String>,
-    pub shortlisted: usize,
-    pub kept: usize,
+    /// For each branch whether it is on the shortlist.
+    pub listed: Vec<bool>,
     pub undecided: usize,
     /// No fitting flow kept to the recorded reroute, so that any branch could be used.
     pub fell_back: bool,
@@ -64,8 +68,8 @@ pub fn judge(network: &Network, lent: &Lent, branch: usize, flow: &[i64], table:
     }
     judge_flow(network, lent, branch, after, &mut judged);
     if judged.faults.is_empty() {
-        let listed = shortlist(network, lent.table, branch, before, after);
-        judge_table(&network.without(branch), lent.table, &listed, after, table, &mut judged);
+        judged.listed = shortlist(network, lent.table, branch, before, after);
+        judge_table(&network.without(branch), lent.table, after, table, &mut judged);
     }
     judged
 }
@@ -102,20 +106,17 @@ pub fn shortlist(network: &Network, table: &[u8], branch: usize, before: &[i64],
     (0..before.len()).map(listed).collect()
 }
 
-fn judge_table(changed: &Network, lent: &[u8], listed: &[bool], flow: &[i64], table: &[u8], judged: &mut Judged) {
-    for (k, &listed) in listed.iter().enumerate() {
+fn judge_table(changed: &Network, lent: &[u8], flow: &[i64], table: &[u8], judged: &mut Judged) {
+    let mut cutter = Cutter::new(changed);
+    for k in 0..flow.len() {
         let left = record::stretch(table, k);
-        if !listed {
-            judged.kept += 1;
-            if left != record::stretch(lent, k) {
-                judged.faults.push(format!("record {k} is not on the shortlist, yet it changed"));
+        if judged.listed[k] {
+            match screen::record_holds(&mut cutter, flow, k, left) {
+                Ok(decided) => judged.undecided += !decided as usize,
+                Err(fault) => judged.faults.push(format!("after the outage, {fault}")),
             }
-            continue;
-        }
-        judged.shortlisted += 1;
-        match screen::record_holds(changed, flow, k, left) {
-            Ok(decided) => judged.undecided += !decided as usize,
-            Err(fault) => judged.faults.push(format!("after the outage, {fault}")),
+        } else if left != record::stretch(lent, k) {
+            judged.faults.push(format!("record {k} is not on the shortlist, yet it changed"));
         }
     }
 }
@@ -131,9 +132,10 @@ pub fn own_result(network: &Network, lent: &Lent, branch: usize) -> (Vec<i64>, V
         .expect("the changed book has a fitting flow");
     let listed = shortlist(network, lent.table, branch, before, &after);
     let changed = network.without(branch);
+    let mut cutter = Cutter::new(&changed);
     let mut table = lent.table[..record::SIZE * count].to_vec();
     for k in (0..count).filter(|&k| listed[k]) {
-        table[record::SIZE * k..record::SIZE * (k + 1)].copy_from_slice(&screen::own_record(&changed, &after, k));
+        table[record::SIZE * k..record::SIZE * (k + 1)].copy_from_slice(&screen::own_record(&mut cutter, &after, k));
     }
     (after, table)
 }

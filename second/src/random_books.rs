@@ -4,8 +4,13 @@ use crate::book::{Book, Branch, LARGEST};
 use crate::network::limit_in_kw;
 use crate::random::Random;
 
-/// A book with these counts whose base excess is 0: injections are what a random flow within the limits leaves.
+/// A book with these counts whose base excess is 0.
 pub fn served(random: &mut Random, buses: usize, count: usize) -> Book {
+    served_with_flow(random, buses, count).0
+}
+
+/// A book and a random flow that fits it: the injections are what the flow leaves at each bus.
+pub fn served_with_flow(random: &mut Random, buses: usize, count: usize) -> (Book, Vec<i64>) {
     let count = if buses == 1 { 0 } else { count };
     let factor = *random.pick(&[1000, 1000, 999, 950, 500, 1 + random.0 as u32 % 1000]);
     let largest = *random.pick(&[1, 3, 20, 1_000, 100_000, LARGEST]);
@@ -20,8 +25,8 @@ pub fn served(random: &mut Random, buses: usize, count: usize) -> Book {
             Branch { first, second, kva, served: !random.once_in(outs) }
         })
         .collect();
-    let injections = injections(random, buses, &branches, factor);
-    Book { factor, injections, branches }
+    let (injections, flow) = injections(random, buses, &branches, factor);
+    (Book { factor, injections, branches }, flow)
 }
 
 /// Two different buses of the same island, if the island has two.
@@ -42,13 +47,17 @@ fn ends(random: &mut Random, buses: usize, number: usize, shape: usize, islands:
     (one * islands + island, other * islands + island)
 }
 
-fn injections(random: &mut Random, buses: usize, branches: &[Branch], factor: u32) -> Vec<i64> {
+fn injections(random: &mut Random, buses: usize, branches: &[Branch], factor: u32) -> (Vec<i64>, Vec<i64>) {
     let share = *random.pick(&[10, 30, 60, 100]);
     let mut flow: Vec<i64> = branches
         .iter()
         .map(|branch| {
-            let most = limit_in_kw(branch.kva, factor) * share / 100;
-            if branch.served { random.between(-most, most) } else { 0 }
+            let most = (limit_in_kw(branch.kva, factor) * share + 99) / 100;
+            if branch.served {
+                random.between(-most, most)
+            } else {
+                0
+            }
         })
         .collect();
     loop {
@@ -58,7 +67,7 @@ fn injections(random: &mut Random, buses: usize, branches: &[Branch], factor: u3
             injections[branch.second] -= kw;
         }
         if injections.iter().all(|kw: &i64| kw.abs() <= LARGEST) {
-            return injections;
+            return (injections, flow);
         }
         flow.iter_mut().for_each(|kw| *kw /= 2);
     }

@@ -92,14 +92,22 @@ fn mend(network: &Network, flow: &[i64], changed: &mut [i64], named: &[usize], s
             return Mended::Done;
         }
     }
-    if room_somewhere { Mended::Stuck } else { Mended::Never }
+    if room_somewhere {
+        Mended::Stuck
+    } else {
+        Mended::Never
+    }
 }
 
 /// A round trip over named branches with room, through `same` in the given direction: branches and signs.
 fn round_trip(network: &Network, changed: &[i64], named: &[usize], same: usize, ahead: bool) -> Option<Vec<(usize, i64)>> {
     let ends = |number: usize, sign: i64| {
         let line = &network.lines[number];
-        if sign > 0 { (line.first, line.second) } else { (line.second, line.first) }
+        if sign > 0 {
+            (line.first, line.second)
+        } else {
+            (line.second, line.first)
+        }
     };
     let room = |number: usize, sign: i64| network.lines[number].limit - sign * changed[number];
     let sign = if ahead { 1 } else { -1 };

@@ -2,7 +2,7 @@
 
 use crate::answer::Answer;
 use crate::book::{self, Book};
-use crate::cuts;
+use crate::cuts::{self, Cutter};
 use crate::network::{Network, Verdict};
 use crate::record;
 use crate::reroutes::{self, Exactly};
@@ -21,12 +21,18 @@ pub fn opened(bytes: &[u8], flow_room: usize, table_room: usize) -> Result<Book,
 pub fn screened(bytes: &[u8], flow_room: usize, table_room: usize) -> Result<Network, Answer> {
     let network = Network::of(&opened(bytes, flow_room, table_room)?);
     let excess = cuts::base_excess(&network);
-    if excess.amount > 0 { Err(Answer::overloaded(excess)) } else { Ok(network) }
+    if excess.amount > 0 {
+        Err(Answer::overloaded(excess))
+    } else {
+        Ok(network)
+    }
 }
 
 /// What is wrong with a record of a network and a fitting flow; `Ok(false)` where the reroute stayed undecided.
-pub fn record_holds(network: &Network, flow: &[i64], branch: usize, bytes: &[u8]) -> Result<bool, String> {
-    let verdict = cuts::verdict(network, branch);
+/// The cutter is the network's.
+pub fn record_holds(cutter: &mut Cutter, flow: &[i64], branch: usize, bytes: &[u8]) -> Result<bool, String> {
+    let network = cutter.network;
+    let verdict = cutter.verdict(branch);
     if verdict != Verdict::Carries {
         let due = record::bytes(verdict, &[]);
         return if bytes == due { Ok(true) } else { Err(format!("record {branch} should say {verdict:?}")) };
@@ -46,8 +52,9 @@ pub fn record_holds(network: &Network, flow: &[i64], branch: usize, bytes: &[u8]
 }
 
 /// A true record of our own choice of reroute.
-pub fn own_record(network: &Network, flow: &[i64], branch: usize) -> [u8; record::SIZE] {
-    let verdict = cuts::verdict(network, branch);
+pub fn own_record(cutter: &mut Cutter, flow: &[i64], branch: usize) -> [u8; record::SIZE] {
+    let network = cutter.network;
+    let verdict = cutter.verdict(branch);
     if verdict != Verdict::Carries {
         return record::bytes(verdict, &[]);
     }
@@ -59,5 +66,6 @@ pub fn own_record(network: &Network, flow: &[i64], branch: usize) -> [u8; record
 
 /// The verdict on every branch of a network whose base excess is 0.
 pub fn verdicts(network: &Network) -> Vec<Verdict> {
-    (0..network.lines.len()).map(|branch| cuts::verdict(network, branch)).collect()
+    let mut cutter = Cutter::new(network);
+    (0..network.lines.len()).map(|branch| cutter.verdict(branch)).collect()
 }

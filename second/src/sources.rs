@@ -35,14 +35,14 @@ pub const FIVE_FLOWS: [[i64; 7]; 3] = [
 /// Section 3.6.2: sums over cuts are given, not single ratings; 3-5 and 1-3 are ours to choose.
 pub fn five_bus_of_cuts(injections: &[i64; 5], rating_3_5: u32, rating_1_3: u32) -> Book {
     let rest = 820 - rating_3_5 - rating_1_3;
-    let ratings = [(1, 2, rest), (1, 5, 200 - rating_3_5), (1, 3, rating_1_3), (2, 3, rest), (3, 5, rating_3_5), (4, 5, 250), (3, 4, 300)];
+    let ratings =
+        [(1, 2, rest), (1, 5, 200 - rating_3_5), (1, 3, rating_1_3), (2, 3, rest), (3, 5, rating_3_5), (4, 5, 250), (3, 4, 300)];
     from_mw(injections, &ratings)
 }
 
 /// Branches of the 10-bus system in the order of Appendix B, each of 300 MVA.
 pub const TEN_1_4: usize = 1;
-const TEN: [(usize, usize); 11] =
-    [(1, 3), (1, 4), (2, 3), (2, 9), (3, 9), (4, 6), (5, 6), (5, 10), (6, 7), (7, 8), (8, 9)];
+const TEN: [(usize, usize); 11] = [(1, 3), (1, 4), (2, 3), (2, 9), (3, 9), (4, 6), (5, 6), (5, 10), (6, 7), (7, 8), (8, 9)];
 
 /// One split of the three sums that can be read: buses 4, 5, 6, 10 give 335.86 MW, buses 1, 2, 3 take 380.86 MW.
 pub const TEN_SPLIT: [i64; 10] = [-100_000, -212_150, -68_710, 150_000, 50_000, 35_860, 0, 0, 45_000, 100_000];
@@ -101,7 +101,10 @@ pub fn seven_bus_flow() -> Vec<i64> {
 
 /// The branch between two of the document's buses in the 7-bus system.
 pub fn seven_branch(one: usize, other: usize) -> usize {
-    SEVEN.iter().position(|&(first, second, _, _)| (first, second) == (one, other) || (second, first) == (one, other)).expect("a branch of Table 2.3")
+    SEVEN
+        .iter()
+        .position(|&(first, second, _, _)| (first, second) == (one, other) || (second, first) == (one, other))
+        .expect("a branch of Table 2.3")
 }
 
 /// The branches on the indirect paths of Table 2.3, in rising order.

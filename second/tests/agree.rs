@@ -26,6 +26,7 @@ fn both_methods_agree_on_small_books() {
         for branch in 0..network.lines.len() {
             let verdict = groups::verdict(&network, branch);
             assert_eq!(verdict, cuts::verdict(&network, branch), "branch {branch} of {book:?}");
+            assert_eq!(verdict, cuts::Cutter::new(&network).verdict_afresh(branch), "branch {branch} of {book:?}");
             match verdict {
                 second::network::Verdict::Carries => carries += 1,
                 second::network::Verdict::Short(_) => shorts += 1,
@@ -34,6 +35,19 @@ fn both_methods_agree_on_small_books() {
         }
     }
     assert!(overloaded > 300 && shorts > 3000 && carries > 3000, "{overloaded} {shorts} {carries}");
+}
+
+#[test]
+fn both_ways_to_cut_agree_on_large_books() {
+    let mut random = Random(4);
+    for _ in 0..60 {
+        let book = served(&mut random, 128, 256);
+        let network = Network::of(&book);
+        let (mut one, mut other) = (cuts::Cutter::new(&network), cuts::Cutter::new(&network));
+        for branch in 0..network.lines.len() {
+            assert_eq!(one.verdict(branch), other.verdict_afresh(branch));
+        }
+    }
 }
 
 #[test]
@@ -62,49 +76,52 @@ fn all_flows(network: &Network, branch: usize) -> Vec<Vec<i64>> {
     flows
 }
 
+/// A tiny book with limits of at most 2 and a random flow that fits it.
+fn tiny(random: &mut Random, buses: usize, count: usize) -> (Network, Vec<i64>) {
+    let mut book = served(random, buses, count);
+    book.branches.iter_mut().for_each(|branch| branch.kva = branch.kva.min(2));
+    book.factor = 1000;
+    book.injections = vec![0; buses];
+    let mut flow = Vec::new();
+    for branch in &book.branches {
+        let most = if branch.served { branch.kva as i64 } else { 0 };
+        let kw = random.between(-most, most);
+        book.injections[branch.first] += kw;
+        book.injections[branch.second] -= kw;
+        flow.push(kw);
+    }
+    (Network::of(&book), flow)
+}
+
 #[test]
 fn reroutes_are_decided_as_all_whole_flows_decide_them() {
     let mut random = Random(3);
-    let (mut yes, mut no, mut signs) = (0, 0, 0);
+    let (mut yes, mut no, mut only_confined) = (0, 0, 0);
     for _ in 0..1500 {
         let (buses, count) = (2 + random.below(4), 1 + random.below(6));
-        let mut book = served(&mut random, buses, count);
-        book.branches.iter_mut().for_each(|branch| branch.kva = branch.kva.min(2));
-        book.factor = 1000;
-        book.injections = vec![0; buses];
-        let flow: Vec<i64> = book.branches.iter().map(|b| if b.served { random.between(-(b.kva as i64), b.kva as i64) } else { 0 }).collect();
-        for (b, kw) in book.branches.iter().zip(&flow) {
-            book.injections[b.first] += kw;
-            book.injections[b.second] -= kw;
-        }
-        let network = Network::of(&book);
+        let (network, flow) = tiny(&mut random, buses, count);
         assert!(network.fits(&flow));
         let branch = random.below(count);
         if !network.lines[branch].served {
             continue;
         }
         let flows = all_flows(&network, branch);
+        let differs = |other: &Vec<i64>| (0..count).filter(|&k| k != branch && other[k] != flow[k]).collect::<Vec<_>>();
         for mask in 0..1usize << count {
             let named: Vec<usize> = (0..count).filter(|k| mask >> k & 1 == 1).collect();
-            let differs = |other: &Vec<i64>| (0..count).filter(|&k| k != branch && other[k] != flow[k]).collect::<Vec<_>>();
-            let within = flows.iter().any(|other| differs(other).iter().all(|k| named.contains(k)));
+            let within = |other: &Vec<i64>| differs(other).iter().all(|k| named.contains(k));
             let found = confined(&network, &flow, branch, &named);
-            assert_eq!(found.is_some(), within);
-            assert!(found.is_none_or(|found| flows.contains(&found) && differs(&found).iter().all(|k| named.contains(k))));
+            assert_eq!(found.is_some(), flows.iter().any(within));
+            assert!(found.as_ref().is_none_or(|found| flows.contains(found) && within(found)));
             let due = flows.iter().any(|other| differs(other) == named);
             match exactly(&network, &flow, branch, &named) {
-                Exactly::Yes(witness) => {
-                    assert!(due && flows.contains(&witness) && differs(&witness) == named);
-                    yes += 1;
-                }
-                Exactly::No => {
-                    assert!(!due, "{named:?} of {branch}, {flow:?}, {book:?}");
-                    no += 1;
-                    signs += within as usize;
-                }
+                Exactly::Yes(witness) => assert!(due && flows.contains(&witness) && differs(&witness) == named),
+                Exactly::No => assert!(!due, "{named:?} of {branch}, {flow:?}, {network:?}"),
                 Exactly::Undecided => panic!("undecided on a small book"),
             }
+            (yes, no) = (yes + due as usize, no + !due as usize);
+            only_confined += (!due && found.is_some()) as usize;
         }
     }
-    assert!(yes > 1000 && no > 1000 && signs > 100, "{yes} {no} {signs}");
+    assert!(yes > 1000 && no > 1000 && only_confined > 100, "{yes} {no} {only_confined}");
 }

@@ -1,6 +1,6 @@
 //! The stored books and expected lists are what this program makes today.
 
-use second::{book, list, shelf, text};
+use second::{book, list, shelf, stored, text};
 use std::fs;
 use std::path::Path;
 
@@ -15,4 +15,5 @@ fn stored_files_are_up_to_date() {
             assert_eq!(text::parse(&words).unwrap(), stored, "{name}");
         }
     }
+    assert_eq!(fs::read(here.join("streams").join("stored.stream")).unwrap(), stored::stream());
 }

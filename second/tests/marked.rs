@@ -65,7 +65,8 @@ fn b_triangle_with_branch_0_out() {
 fn fresh(bytes: &[u8]) -> (Vec<i64>, Vec<u8>) {
     let network = screen::screened(bytes, 256, 13312).unwrap();
     let flow = cuts::fitting_flow(&network).unwrap();
-    let table = (0..flow.len()).flat_map(|branch| screen::own_record(&network, &flow, branch)).collect();
+    let mut cutter = cuts::Cutter::new(&network);
+    let table = (0..flow.len()).flat_map(|branch| screen::own_record(&mut cutter, &flow, branch)).collect();
     (flow, table)
 }
 
@@ -112,7 +113,8 @@ fn k_one_bus_and_no_branch() {
 fn l_the_two_register_examples() {
     assert_eq!(advance(4_294_967_290, 10), 16);
     let read = |start: u32, end: u32| {
-        let registers = Registers { import_start: &[0, 0], import_end: &[0, 0], export_start: &[start, 5], export_end: &[end, 1] };
+        let registers =
+            Registers { import_start: &[0, 0], import_end: &[0, 0], export_start: &[start, 5], export_end: &[end, 1] };
         injections(&registers, 1, 2)
     };
     assert_eq!(read(4_294_967_290, 10), Ok(vec![16, -16]));

@@ -20,7 +20,9 @@ fn reading_refuses_1_to_7() {
     assert_eq!(unpack(&good[..24]), Err(1));
     assert_eq!(unpack(&[&good[..], &[0]].concat()), Err(1));
     let header = |buses: u32, count: u32, factor: u32, fill: u32| (buses << 24 | count << 15 | factor << 5 | fill).to_be_bytes();
-    for (buses, count, factor) in [(0, 3, 1000), (129, 3, 1000), (255, 3, 1000), (3, 257, 1000), (3, 511, 1000), (3, 3, 0), (3, 3, 1001), (3, 3, 1023)] {
+    for (buses, count, factor) in
+        [(0, 3, 1000), (129, 3, 1000), (255, 3, 1000), (3, 257, 1000), (3, 511, 1000), (3, 3, 0), (3, 3, 1001), (3, 3, 1023)]
+    {
         assert_eq!(unpack(&[&header(buses, count, factor, 31)[..], &good[4..]].concat()), Err(2));
     }
     for place in 27..32 {

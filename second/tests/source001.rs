@@ -85,8 +85,16 @@ fn ten_bus_loss_of_4_1_is_short_35_86_mw_for_every_split_of_the_sums() {
         let take = [0, 1].map(|_| -random.between(0, 180_000));
         let through = [-random.between(0, 20_000), -random.between(0, 20_000)];
         let split = [
-            take[0], take[1], -380_860 - take[0] - take[1], give[0], give[1], give[2],
-            through[0], through[1], 45_000 - through[0] - through[1], 335_860 - give[0] - give[1] - give[2],
+            take[0],
+            take[1],
+            -380_860 - take[0] - take[1],
+            give[0],
+            give[1],
+            give[2],
+            through[0],
+            through[1],
+            45_000 - through[0] - through[1],
+            335_860 - give[0] - give[1] - give[2],
         ];
         if cuts::base_excess(&Network::of(&ten_bus(&split))).amount == 0 {
             assert_eq!(verdict(&ten_bus(&split), TEN_1_4), due, "{split:?}");
@@ -103,7 +111,7 @@ fn seven_bus_reroutes_of_table_2_3_make_a_true_table() {
     for branch in 0..12 {
         assert_eq!(verdict(&seven_bus(), branch), Verdict::Carries);
         let bytes = record::bytes(Verdict::Carries, &seven_reroute(branch));
-        assert_eq!(screen::record_holds(&network, &flow, branch, &bytes), Ok(true));
+        assert_eq!(screen::record_holds(&mut cuts::Cutter::new(&network), &flow, branch, &bytes), Ok(true));
     }
 }
 
@@ -121,7 +129,8 @@ fn seven_bus_shortlist_for_the_loss_of_2_1() {
     assert_eq!(moved, due);
     let listed: Vec<usize> = (0..12).filter(|&k| shortlist(&network, &table, SEVEN_2_1, &flow, &after)[k]).collect();
     // The document's six, and the branch taken out itself.
-    let mut due: Vec<usize> = [(1, 6), (3, 2), (3, 1), (3, 6), (4, 3), (4, 6), (2, 1)].map(|(one, other)| seven_branch(one, other)).to_vec();
+    let mut due: Vec<usize> =
+        [(1, 6), (3, 2), (3, 1), (3, 6), (4, 3), (4, 6), (2, 1)].map(|(one, other)| seven_branch(one, other)).to_vec();
     due.sort();
     assert_eq!(listed, due);
     assert!(judge(&network, &lent, SEVEN_2_1, &after, &left).faults.is_empty());

@@ -1,7 +1,7 @@
 // The 52 bytes of a branch, on a stretch lent out of the middle of the table: written, read, and tested for the shortlist.
 ghost use mathlib.Core.Path.{_≡_};
 ghost use Prim.Native.Nat.{_+_, _*_, _≤_, _<_};
-ghost use lib.ListN.{length};
+ghost use lib.ListN.{length, take, drop};
 ghost use Rattle.rows.specs.Row.{placed};
 ghost use Rattle.verdict.specs.Record.{recordAt};
 ghost use Rattle.record.specs.Bytes.{recordBytes, Read, listed};
@@ -79,6 +79,25 @@ pub fn read_at(table: &[u8], k: usize) -> Shown
     let a = 52 * k;
     let e = a + 52;
     read_record(&table[a..e])
+}
+
+fn read_reroute(rec: &[u8]) -> [u8; 32]
+    requires { ⌜ length (now rec) ≡ 52 ⌝ }
+    ensures { λ r. ⌜ r ≡ take 32 (drop 20 (now (rec .entry))) ⌝ }
+{
+    let mut reroute = [0u8; 32];
+    copy(&rec[20..52], &mut reroute);
+    reroute
+}
+
+// The bytes of the reroute.
+pub fn reroute_at(table: &[u8], k: usize) -> [u8; 32]
+    requires { ⌜ 52 * k + 52 ≤ length (now table) ⌝ }
+    ensures { λ r. ⌜ r ≡ take 32 (drop 20 (recordAt (now (table .entry)) k)) ⌝ }
+{
+    let a = 52 * k;
+    let e = a + 52;
+    read_reroute(&table[a..e])
 }
 
 // Byte 0 isn't 1, or the reroute names a touched branch. A byte of both is tested at once.

@@ -10,7 +10,7 @@ use reroute::Latent;
 use reroute::Verdict;
 use search::Wires;
 
-fn is_named(named: [u8; 32], k: usize) -> bool
+pub fn is_named(named: [u8; 32], k: usize) -> bool
     ensures { λ r. ⌜ r ≡ has named k ⌝ }
 {
     bits::field(&named, k, 1) == 1

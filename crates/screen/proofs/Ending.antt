@@ -43,7 +43,7 @@ Flat C = C .limit ≡ C .loss-limit
 
 module _ (C : Case) (flat : Flat C) (W : Wires) (served : List Bool) (live gain load : List ℕ) (h : Held C W served live)
     (gain-is : nth gain ≡ (λ i. posPart (C .injection i))) (load-is : nth load ≡ (λ i. negPart (C .injection i))) where
-  base-net : network W (nth live) (nth gain) (nth load) ≡ base C
+  pub base-net : network W (nth live) (nth gain) (nth load) ≡ base C
   base-net = rw (h .buses-are, h .branches-are, h .first-is, h .second-is, h .live-is, gain-is, load-is, flat) refl
 
   gain-at : (i : ℕ) → nth gain i ≡ posPart (C .injection i)

@@ -75,7 +75,7 @@ module _ (C : Case) (f : ℕ → ℤ) (W : Wires) (served : List Bool) (live a b
   fitting : NoExcess C
   fitting = none-above C (C .limit) f (s .held .posed) (s .fits)
 
-  limit-at : (k : ℕ) → nth live k ≡ pick (C .served k) (C .loss-limit k)
+  pub limit-at : (k : ℕ) → nth live k ≡ pick (C .served k) (C .loss-limit k)
   limit-at k = ap (λ (l : ℕ → ℕ). l k) (s .held .live-is)
 
   part-le : (t : Bool) (x y : ℕ) → x ≤ y → pick t x ≤ y
@@ -102,7 +102,7 @@ module _ (C : Case) (f : ℕ → ℤ) (W : Wires) (served : List Bool) (live a b
   }
 
   -- The flow that the latent capacities leave is the case's own.
-  balanced : Balanced (netOf C (C .loss-limit)) (carried (nth live) a) nothing nothing
+  pub balanced : Balanced (netOf C (C .loss-limit)) (carried (nth live) a) nothing nothing
   balanced =
       balanced-alike (netOf C (C .loss-limit)) (flowOf f) (carried (nth live) a) nothing nothing
       (λ k u. omega (arith, s .latents .ahead-is k u, limit-at k))

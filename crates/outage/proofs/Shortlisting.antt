@@ -1,0 +1,107 @@
+-- The shortlist as the code tests it is that of the paper; so a refreshed table is an update.
+use mathlib.Core.Path.{_≡_, refl, sym, _∙_}
+use mathlib.Core.Bool.{Bool, true, false, not, _&&_, _||_, true≢false, false≢true}
+use mathlib.Core.List.{List}
+use mathlib.Core.Logic.{_⊎_, inl, inr}
+use Prim.Native.Nat.{ℕ, zero, suc, _≤_, _<_}
+use native.Mathlib.Omega.{arith}
+use native.Mathlib.Decide.{ℕ-discrete}
+use borrow.Author.Tests.{eq-eqb, ne-eqb}
+use lib.Dec.{eqb}
+use lib.IntN.{ℤ}
+use lib.ListN.{length, getD}
+use Rattle.rows.specs.Row.{nth, some}
+use Rattle.rows.proofs.Row.{some-at, or-true, both-true}
+use Rattle.rows.specs.Bit.{has, bitAt}
+use Rattle.bits.specs.Field.{setBit}
+use Rattle.bits.proofs.Bits.{bit-same, bit-other}
+use Rattle.verdict.specs.Case.{Case, on, Fits}
+use Rattle.verdict.specs.Record.{recordAt, verdictOf, names}
+use Rattle.verdict.specs.Update.{Shortlisted, not-served, not-carrying, is-touched, names-touched, Updated}
+use Rattle.record.specs.Bytes.{listed}
+use Rattle.screen.specs.State.{Differs, Changed}
+use Rattle.outage.specs.Shortlist.{listedAt, Marked, Refreshed}
+
+-- ---- The bits of touched branches.
+pub marked : {n : ℕ} {a b : List ℕ} {k : ℕ} {row : List ℕ} → n ≤ 256 → k < n → Changed n a b k row → Marked n a b k (setBit row k 1)
+marked {n} {a} {b} {k} {row} few u c =
+    let here : has (setBit row k 1) k ≡ true = eq-eqb (bitAt (setBit row k 1) k) 1 (bit-same row k 1 (omega arith) (omega (arith, c .long))) in
+    let there : (j : ℕ) → (j ≡ k → ⊥) → has (setBit row k 1) j ≡ has row j = λ j q. rw (bit-other row k j 1 (omega arith) q) refl in
+    record {
+      itself = here;
+      differing = λ j v d. differ j v d here there (ℕ-discrete j k);
+      only = λ j q. one j q there (ℕ-discrete j k);
+    }
+  where
+    differ : (j : ℕ) → j < n → (nth a j ≡ nth b j → ⊥) → has (setBit row k 1) k ≡ true → ((j : ℕ) → (j ≡ k → ⊥) → has (setBit row k 1) j ≡ has row j) → Dec (j ≡ k) → has (setBit row k 1) j ≡ true
+    differ j v d here there (yes e) = rw e here
+    differ j v d here there (no m) = there j m ∙ c .names j v m d
+
+    one : (j : ℕ) → has (setBit row k 1) j ≡ true → ((j : ℕ) → (j ≡ k → ⊥) → has (setBit row k 1) j ≡ has row j) → Dec (j ≡ k) → (j ≡ k) ⊎ Differs n a b k j
+    one j q there (yes e) = inl e
+    one j q there (no m) = inr (c .named j (sym (there j m) ∙ q))
+
+some-never : (p : ℕ → Bool) (n : ℕ) → ((k : ℕ) → p k ≡ false) → some n p ≡ false
+unfolding some
+some-never p zero h = refl
+some-never p (suc n) h = rw (some-never p n h, h n) refl
+
+-- ---- The test is the shortlist.
+module _ (C : Case) (served : List Bool) (touched : List ℕ) (T : ℕ → Type 0) (few : C .branches ≤ 256) (served-is : (k : ℕ) → getD served k false ≡ C .served k)
+    (marks : (j : ℕ) → j < C .branches → T j → has touched j ≡ true) (marked-only : (j : ℕ) → has touched j ≡ true → (j < C .branches) × T j) (table : List ℕ) where
+  pub shortlisted-listed : (k : ℕ) → k < C .branches → Shortlisted C table T k → listedAt served touched table k ≡ true
+  unfolding listedAt listed
+  shortlisted-listed k u (not-served e) = rw (served-is k, e) refl
+  shortlisted-listed k u (not-carrying n) =
+      rw (ne-eqb (verdictOf (recordAt table k)) 1 n) (or-two (not (getD served k false)) (has touched k) true refl)
+    where
+      or-two : (s t x : Bool) → x ≡ true → (s || (t || x)) ≡ true
+      or-two true t x e = refl
+      or-two false true x e = refl
+      or-two false false x e = e
+  shortlisted-listed k u (is-touched t) = rw (marks k u t) (or-true (not (getD served k false)))
+  shortlisted-listed k u (names-touched j v n t) =
+      or-all (not (getD served k false)) (has touched k) (not (eqb (verdictOf (recordAt table k)) 1))
+      (some 256 (λ i. names (recordAt table k) i && has touched i))
+      (some-at (λ i. names (recordAt table k) i && has touched i) 256 j (omega arith) (rw (n, marks j v t) refl))
+    where
+      or-all : (s t x y : Bool) → y ≡ true → (s || (t || (x || y))) ≡ true
+      or-all true t x y e = refl
+      or-all false true x y e = refl
+      or-all false false true y e = refl
+      or-all false false false y e = e
+
+  -- Off the shortlist the test says no.
+  pub unlisted : (k : ℕ) → k < C .branches → (Shortlisted C table T k → ⊥) → listedAt served touched table k ≡ false
+  unfolding listedAt listed
+  unlisted k u no-short = all-false _ _ _ _
+      (by (not (getD served k false)) (λ e. no-short (not-served (sym (served-is k) ∙ turned _ e))))
+      (by (has touched k) (λ e. no-short (is-touched (marked-only k e .1))))
+      (by (not (eqb (verdictOf (recordAt table k)) 1)) (λ e. no-short (not-carrying (λ q. true≢false (sym (eq-eqb _ _ q) ∙ turned _ e)))))
+      (some-never (λ j. names (recordAt table k) j && has touched j) 256 miss)
+    where
+      by : (t : Bool) → (t ≡ true → ⊥) → t ≡ false
+      by true h = absurd (h refl)
+      by false h = refl
+
+      turned : (t : Bool) → not t ≡ true → t ≡ false
+      turned true e = absurd (false≢true e)
+      turned false e = refl
+
+      all-false : (s t x y : Bool) → s ≡ false → t ≡ false → x ≡ false → y ≡ false → (s || (t || (x || y))) ≡ false
+      all-false s t x y e f g h = rw (e, f, g, h) refl
+
+      miss : (j : ℕ) → (names (recordAt table k) j && has touched j) ≡ false
+      miss j = by (names (recordAt table k) j && has touched j) (λ e.
+          let w = both-true (names (recordAt table k) j) (has touched j) e in
+          let m = marked-only j (w .1) in
+          no-short (names-touched j (m .0) (w .0) (m .1)))
+
+  pub updated : {flow flow′ : List ℤ} {table′ : List ℕ} → Fits C (C .limit) (on flow′) → Refreshed C (on flow′) served touched (C .branches) table table′
+      → length flow′ ≡ length flow → ((k : ℕ) → C .branches ≤ k → on flow′ k ≡ on flow k) → Updated C T flow table flow′ table′
+  updated {flow} {flow′} {table′} fits r long rest = record {
+    fits = fits;
+    rewritten = λ k u h. r .rewritten k u (shortlisted-listed k u h);
+    kept = λ k u h. r .kept k u (unlisted k u h);
+    beyond = record { flow-long = long; flow-rest = rest; table-long = r .long; table-rest = r .rest };
+  }

@@ -1,0 +1,58 @@
+use mathlib.Core.Logic.{inl, inr}
+use borrow.Author.Needs.{needs}
+use native.Mathlib.Omega.{arith}
+use Prim.Native.Nat.{_-_}
+use Rattle.outage.proofs.Refreshing.{Going, going-none, going-kept, going-written, going-all}
+use Rattle.outage.proofs.refresh.Statement.{statement}
+use Rattle.outage.proofs.refresh.Tie as tie
+
+abbrev Inv-loop : tie.InvT-loop
+Inv-loop table₀ wires served live latent touched k₀ table k = Going wires served live (latent .ahead) (latent .back) touched table₀ table k
+
+abbrev μ-loop : tie.MeasureT-loop
+μ-loop table₀ wires served live latent touched k₀ table k = wires .branches - k
+
+loop-holds : tie.Need-loop-holds Inv-loop μ-loop
+loop-holds c = going-none _ _ _ _ _ _ (c .before .pre .0) (c .before .pre .1)
+
+is-listed-requires : tie.Need-is-listed-requires Inv-loop μ-loop
+is-listed-requires c κs = let g = c .before .before .before .loop .inv in (omega (arith, c .before .if1 .taken, g .poised .state .held .linked .wired .size), omega (arith, c .before .if1 .taken, g .room, g .long))
+
+put-verdict-requires : tie.Need-put-verdict-requires Inv-loop μ-loop
+put-verdict-requires c κs = search needs
+
+add-k : tie.Need-add-k Inv-loop μ-loop
+add-k c = omega arith
+
+loop-less : tie.Need-loop-less Inv-loop μ-loop
+loop-less c = omega arith
+
+loop-again : tie.Need-loop-again Inv-loop μ-loop
+loop-again c =
+    let g = c .before .before .before .before .before .loop .inv in
+    let u = c .before .before .before .if1 .taken in
+    elim (c .if2 .came) [
+      | inl w ↦ rw (w .5) (going-written _ _ _ _ _ _ g u (c .before .is-listed .ensures) (w .0 .taken) (w .2 .ensures))
+      | inr w ↦ rw (w .1) (going-kept _ _ _ _ _ _ g u (c .before .is-listed .ensures) (w .0 .left))
+    ]
+
+same-length : tie.Need-same-length Inv-loop μ-loop
+same-length c = c .before .before .loop .inv .long
+
+returns : tie.Need-returns Inv-loop μ-loop
+returns c = going-all _ _ _ _ _ _ (c .before .before .loop .inv) (omega arith)
+
+pub refresh-spec : {M : Type 1} → statement M
+refresh-spec =
+    tie.close
+    (tie.spec
+    Inv-loop
+    μ-loop
+    loop-holds
+    is-listed-requires
+    put-verdict-requires
+    add-k
+    loop-less
+    loop-again
+    same-length
+    returns)

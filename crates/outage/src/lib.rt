@@ -1,0 +1,271 @@
+// Taking a branch out of service: the flow is rerouted, and the records on the shortlist are written anew.
+ghost use mathlib.Core.Path.{_≡_};
+ghost use mathlib.Core.Bool.{true, false};
+ghost use Prim.Native.Nat.{ℕ, _+_, _*_, _<_, _≤_};
+ghost use lib.IntN.{ℤ};
+ghost use lib.ListN.{length, set};
+ghost use lib.Dec.{eqb};
+ghost use Rattle.rows.specs.Row.{nth, every};
+ghost use Rattle.verdict.specs.Case.{Case, on};
+ghost use Rattle.screen.specs.State.{Poised, State};
+ghost use Rattle.outage.specs.Fit.{Lently, Tested, Countable, Counted, Lendable, Fitted};
+ghost use Rattle.outage.specs.Shortlist.{Marked, listedAt, Refreshed};
+ghost use Rattle.outage.specs.Promise.{takeCheck, TakeEnds};
+use reroute::Latent;
+use reroute::Verdict;
+use rows::Answer;
+use rows::Outcome;
+use search::Wires;
+
+// The latent capacities that a lent flow leaves, where it keeps to the limits.
+struct Lent {
+    within: bool,
+    latent: Latent,
+}
+
+fn latents(flow: &[i32], branches: usize, live: [u32; 256]) -> Lent
+    requires { ⌜ Lently branches live (length (now flow)) ⌝ }
+    ensures { λ r. ⌜ Tested branches (now (flow .entry)) live r ⌝ }
+{
+    let mut ahead = [0u32; 256];
+    let mut back = [0u32; 256];
+    let mut k: usize = 0;
+    while k < branches {
+        let up = quantity::above(flow[k]);
+        let down = quantity::below(flow[k]);
+        let limit = live[k];
+        if limit < up {
+            return Lent {
+                within: false,
+                latent: Latent { ahead, back },
+            };
+        }
+        if limit < down {
+            return Lent {
+                within: false,
+                latent: Latent { ahead, back },
+            };
+        }
+        ahead[k] = limit + down - up;
+        back[k] = limit + up - down;
+        k += 1;
+    }
+    Lent {
+        within: true,
+        latent: Latent { ahead, back },
+    }
+}
+
+// What comes to each bus, and what goes from it.
+struct Sides {
+    comes: [u32; 128],
+    goes: [u32; 128],
+}
+
+fn raised(row: [u32; 128], i: usize, x: u32) -> [u32; 128]
+    requires { ⌜ (i < 128) × (nth row i + x < 4294967296) ⌝ }
+    ensures { λ r. ⌜ r ≡ set row i (nth row i + x) ⌝ }
+{
+    let mut more = row;
+    more[i] += x;
+    more
+}
+
+// Counted as if every branch carried its limit ahead and its latent capacity back: the difference is its flow.
+fn count(
+    wires: Wires,
+    live: [u32; 256],
+    ahead: [u32; 256],
+    gain: [u32; 128],
+    load: [u32; 128],
+) -> Sides
+    requires { ⌜ Countable wires live ahead gain load ⌝ }
+    ensures { λ r. ⌜ Counted wires live ahead gain load (wires .branches) (r .comes) (r .goes) ⌝ }
+{
+    let mut comes = gain;
+    let mut goes = load;
+    let mut k: usize = 0;
+    while k < wires.branches {
+        let near = wires.first[k] as usize;
+        let far = wires.second[k] as usize;
+        let limit = live[k];
+        let spare = ahead[k];
+        comes = raised(raised(comes, far, limit), near, spare);
+        goes = raised(raised(goes, near, limit), far, spare);
+        k += 1;
+    }
+    Sides { comes, goes }
+}
+
+fn same_rows(n: usize, one: [u32; 128], two: [u32; 128]) -> bool
+    requires { ⌜ n ≤ 128 ⌝ }
+    ensures { λ r. ⌜ r ≡ every n (λ i. eqb (nth one i) (nth two i)) ⌝ }
+{
+    let mut i: usize = 0;
+    while i < n {
+        if one[i] != two[i] {
+            return false;
+        }
+        i += 1;
+    }
+    true
+}
+
+// The latent capacities of a lent flow, where it fits.
+fn fit(flow: &[i32], wires: Wires, live: [u32; 256], gain: [u32; 128], load: [u32; 128]) -> Lent
+    requires { ⌜ Lendable wires live gain load (length (now flow)) ⌝ }
+    ensures { λ r. ⌜ Fitted wires (now (flow .entry)) live gain load r ⌝ }
+{
+    let lent = latents(flow, wires.branches, live);
+    let within = lent.within;
+    if !within {
+        return lent;
+    }
+    let latent = lent.latent;
+    let ahead = latent.ahead;
+    let sides = count(wires, live, ahead, gain, load);
+    let comes = sides.comes;
+    let goes = sides.goes;
+    let balanced = same_rows(wires.buses, comes, goes);
+    Lent {
+        within: balanced,
+        latent,
+    }
+}
+
+// The bits of the branches whose flow changed, and of the branch taken out.
+fn touch(branches: usize, before: [u32; 256], after: [u32; 256], branch: usize) -> [u8; 32]
+    requires { ⌜ (branches ≤ 256) × (branch < branches) ⌝ }
+    ensures { λ r. ⌜ Marked branches before after branch r ⌝ }
+{
+    let mut row = screen::changed(branches, before, after, branch);
+    bits::set_bit(&mut row, branch, 1);
+    row
+}
+
+// On the shortlist: out of service, touched, or by its record as it was lent.
+fn is_listed(table: &[u8], served: [bool; 256], touched: [u8; 32], k: usize) -> bool
+    requires { ⌜ (k < 256) × (52 * k + 52 ≤ length (now table)) ⌝ }
+    ensures { λ r. ⌜ r ≡ listedAt served touched (now (table .entry)) k ⌝ }
+{
+    if !served[k] {
+        return true;
+    }
+    if replace::is_named(touched, k) {
+        return true;
+    }
+    record::listed_at(table, k, touched)
+}
+
+// Records on the shortlist are written anew; each is tested before it is written, so that the table as lent decides.
+fn refresh(
+    table: &mut [u8],
+    wires: Wires,
+    served: [bool; 256],
+    live: [u32; 256],
+    latent: Latent,
+    touched: [u8; 32],
+)
+    requires { ⌜ Poised wires served live (latent .ahead) (latent .back) × (52 * wires .branches ≤ length (now table)) ⌝ }
+    ensures { λ _. ⌜ ((C : Case) (f : ℕ → ℤ) → State C f wires served live (latent .ahead) (latent .back) → Refreshed C f served touched (C .branches) (now (table .entry)) (now (table .exit))) ⌝ }
+{
+    let mut k: usize = 0;
+    while k < wires.branches {
+        if is_listed(table, served, touched, k) {
+            screen::put_verdict(table, wires, served, live, latent, k);
+        }
+        k += 1;
+    }
+}
+
+// Refusals 1 to 10.
+fn check(book: &[u8], flows: usize, bytes: usize, branch: usize) -> Outcome
+    ensures { λ r. ⌜ r ≡ takeCheck (now (book .entry)) flows bytes branch ⌝ }
+{
+    let found = book::check_book(book);
+    let Outcome::Accepted = found else {
+        return found;
+    };
+    let head = book::head_of(book);
+    if flows < head.branches {
+        return rows::refuse(8);
+    }
+    if bytes < 52 * head.branches {
+        return rows::refuse(8);
+    }
+    if head.branches <= branch {
+        return rows::refuse(9);
+    }
+    let x = book::branch_at(book, head.buses, branch);
+    if x.status != 1 {
+        return rows::refuse(10);
+    }
+    Outcome::Accepted
+}
+
+fn closed(served: [bool; 256], k: usize) -> [bool; 256]
+    requires { ⌜ k < 256 ⌝ }
+    ensures { λ r. ⌜ r ≡ set served k false ⌝ }
+{
+    let mut row = served;
+    row[k] = false;
+    row
+}
+
+fn cut(live: [u32; 256], k: usize) -> [u32; 256]
+    requires { ⌜ k < 256 ⌝ }
+    ensures { λ r. ⌜ r ≡ set live k 0 ⌝ }
+{
+    let mut row = live;
+    row[k] = 0;
+    row
+}
+
+// Refusals 1 to 12; accepted, one status bit is cleared, the flow is rerouted, and the shortlist is written anew.
+pub fn take_out(book: &mut [u8], flow: &mut [i32], table: &mut [u8], branch: usize) -> Answer
+    ensures { λ r. ⌜ TakeEnds (now (book .entry)) (now (flow .entry)) (now (table .entry)) branch (now (book .exit)) (now (flow .exit)) (now (table .exit)) r ⌝ }
+{
+    let found = check(book, flow.len(), table.len(), branch);
+    let Outcome::Accepted = found else {
+        return rows::answer_with(found);
+    };
+    let plan = screen::prepare(book::rows_of(book));
+    let wires = plan.wires;
+    let live = plan.live;
+    let gain = plan.gain;
+    let load = plan.load;
+    let lent = fit(flow, wires, live, gain, load);
+    let within = lent.within;
+    if !within {
+        return rows::answer_with(rows::refuse(11));
+    }
+    let latent = lent.latent;
+    let named = record::reroute_at(table, branch);
+    let judged = replace::replace(wires, live, latent, named, branch);
+    let verdict = judged.verdict;
+    let ahead = judged.ahead;
+    let back = judged.back;
+    if let Verdict::Short { excess } = verdict {
+        let group = judged.group;
+        return Answer {
+            outcome: Outcome::Overloaded(excess),
+            group,
+        };
+    }
+    let before = latent.ahead;
+    let touched = touch(wires.branches, before, ahead, branch);
+    let serving = plan.served;
+    let served = closed(serving, branch);
+    let limits = cut(live, branch);
+    screen::fill_flow(flow, wires.branches, limits, ahead);
+    refresh(
+        table,
+        wires,
+        served,
+        limits,
+        Latent { ahead, back },
+        touched,
+    );
+    book::set_status(book, wires.buses, branch, 0);
+    rows::answer_with(Outcome::Accepted)
+}

@@ -1,0 +1,138 @@
+//! The trial stream: commands come back from their bytes, good outputs are taken, what is fixed is the same for all.
+
+use second::book::unpack;
+use second::cuts::{fitting_flow, Cutter};
+use second::judge::judge;
+use second::network::Network;
+use second::random::Random;
+use second::reference::{output, output_with, Done};
+use second::stream::{bytes, commands, Command};
+use second::{fixed, make, screen, selftest, stored};
+
+#[test]
+fn commands_come_back_from_their_bytes() {
+    for seed in 0..40 {
+        let stream = make::stream(seed);
+        let again: Vec<u8> = commands(&stream).map_while(Result::ok).flat_map(|command| bytes(&command)).collect();
+        assert!(stream.starts_with(&again));
+        assert_eq!(again.len() < stream.len(), commands(&stream).any(|command| command.is_err()));
+    }
+}
+
+#[test]
+fn bad_commands_stop_the_stream() {
+    for bad in [&b"x"[..], b"F\x01\x00\0\0\0\0", b"T\x34\x00\0", b"S\x01\x01\0\0", b"B\x08\x35", b"M\0\0\0\0\x81\0"] {
+        assert_eq!(output(bad), "bad command\n");
+        assert_eq!(output(&[bad, b"D"].concat()), "bad command\n");
+    }
+    for cut_short in [&b"B\x00\x02\x01"[..], b"O\0\0\0\0\0", b"M\x01\x01\x01\x01\x01\0\0\0\0\x05"] {
+        assert_eq!(output(cut_short), "bad command\n");
+    }
+    assert_eq!(output(b""), "");
+}
+
+#[test]
+fn lines_have_the_form_of_the_table() {
+    let stream = [&b"B\x00\x02\xab\x0cF\x00\x01\xff\xff\xff\xfeT\x00\x34\x0fD"[..], b"S\0\0\0\0"].concat();
+    let printed = output(&stream);
+    let lines: Vec<&str> = printed.lines().collect();
+    assert!(lines[0].starts_with("book 2 ab0c0000") && lines[0].len() == 7 + 4200);
+    assert!(lines[1].starts_with("flow 0 -2 0 0"));
+    assert_eq!(lines[1].split(' ').count(), 257);
+    assert!(lines[2].starts_with("record 0 000000") && lines[3].starts_with("record 1 0f0000"));
+    assert_eq!((lines.len(), lines[258]), (259, "screen 1 0 0"));
+}
+
+#[test]
+fn the_stored_stream_visits_every_refusal() {
+    let stream = stored::stream();
+    let (tally, verdict) = judge(&stream, &output(&stream));
+    assert_eq!(verdict, Ok(()));
+    for number in 1..=16 {
+        assert!(tally.of(&format!("refused {number:>2}")) > 0, "{number}");
+    }
+    for kind in [
+        "screen accepted, with 128 buses and 256 branches",
+        "out accepted, with 128 buses and 256 branches",
+        "out accepted, that fell back to all branches",
+        "out accepted, from an untrue table, its record names the branch itself",
+        "out accepted, from an untrue table, its record names bits beyond the count",
+        "out accepted, from an untrue table, with records kept",
+        "read accepted",
+        "write accepted",
+        "meters accepted",
+        "bad command",
+    ] {
+        assert!(tally.of(kind) > 0, "{kind}");
+    }
+}
+
+/// After a screen another fitting flow and its table are put in place: the branches are taken in another order.
+fn other_choice(done: &mut Done, random: &mut Random) {
+    let accepted = matches!(done.command, Command::Screen { .. }) && done.lines[0].starts_with("screen 0");
+    let Some(network) = accepted.then(|| Network::of(&unpack(done.after.bytes()).unwrap())) else {
+        return;
+    };
+    let count = network.lines.len();
+    let mut order: Vec<usize> = (0..count).collect();
+    for k in (1..count).rev() {
+        order.swap(k, random.below(k + 1));
+    }
+    let shuffled =
+        Network { injections: network.injections.clone(), lines: order.iter().map(|&k| network.lines[k].clone()).collect() };
+    for (&k, kw) in order.iter().zip(fitting_flow(&shuffled).unwrap()) {
+        done.after.flow[k] = kw;
+    }
+    let mut cutter = Cutter::new(&network);
+    for k in 0..count {
+        done.after.table[52 * k..52 * (k + 1)].copy_from_slice(&screen::own_record(&mut cutter, &done.after.flow[..count], k));
+    }
+}
+
+#[test]
+fn other_choices_are_taken_too() {
+    let mut random = Random(5);
+    let mut differing = 0;
+    for stream in std::iter::once(stored::stream()).chain((100..220).map(make::stream)) {
+        let other = output_with(&stream, &mut |mut done| other_choice(&mut done, &mut random));
+        assert_eq!(judge(&stream, &other).1, Ok(()));
+        differing += (other != output(&stream)) as usize;
+    }
+    assert!(differing > 20, "{differing}");
+}
+
+/// Whether a line agrees with its fixed part.
+fn agrees(fixed: &str, line: &str) -> bool {
+    let (due, words): (Vec<&str>, Vec<&str>) = (fixed.split(' ').collect(), line.split(' ').collect());
+    let word = |(due, word): (&&str, &&str)| {
+        *due == "?" || due.len() == word.len() && due.chars().zip(word.chars()).all(|(due, digit)| due == '?' || due == digit)
+    };
+    due.len() == words.len() && due.iter().zip(&words).all(word)
+}
+
+#[test]
+fn what_is_fixed_agrees_with_every_choice() {
+    let mut random = Random(6);
+    let mut whole = 0;
+    for stream in std::iter::once(stored::stream()).chain((300..420).map(make::stream)) {
+        let other = output_with(&stream, &mut |mut done| other_choice(&mut done, &mut random));
+        let due = fixed::fixed(&stream);
+        let mut lines = other.lines();
+        for fixed in due.lines().filter(|line| !line.starts_with('?')) {
+            let line = lines.next().unwrap();
+            assert!(agrees(fixed, line), "{fixed}\n{line}");
+        }
+        whole += lines.next().is_none() as usize;
+    }
+    assert!(whole > 80, "{whole}");
+}
+
+#[test]
+fn no_answer_of_the_stored_stream_hangs_on_a_choice() {
+    assert!(!fixed::fixed(&stored::stream()).lines().any(|line| line.starts_with('?')));
+}
+
+#[test]
+fn planted_faults_are_found() {
+    assert!(selftest::selftest());
+}
