@@ -1,0 +1,12 @@
+pub mod More
+pub mod Numbers
+pub mod Ends
+pub mod Record
+pub mod Demand1
+pub mod Demand2
+pub mod Unique
+pub mod Calls
+pub mod Demand3
+pub mod AsShown
+pub mod UniqueCalls
+pub mod Excluded

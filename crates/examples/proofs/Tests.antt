@@ -1,0 +1,204 @@
+-- Computed tests of a row, and what each gives.
+use mathlib.Core.Path.{_≡_, refl, sym, ap, ap₂, _∙_, fun-ext}
+use mathlib.Core.Bool.{Bool, true, false, not, true≢false}
+use mathlib.Core.List.{List, [], _∷_, append-nil}
+use Prim.Native.Nat.{ℕ, zero, suc, _+_, _-_, _≤_, _<_}
+use native.Mathlib.Omega.{arith}
+use borrow.Author.Tests.{leb-true, ltb-true, eqb-true, not-true, le-leb}
+use lib.Dec.{leb, ltb, eqb}
+use lib.IntN.{ℤ}
+use lib.ListN.{length, take, length-append, length-take, List·getD-append}
+use lib.Seq.{getD-take, ext-getD}
+use Rattle.rows.specs.Row.{nth, every}
+use Rattle.rows.specs.Bit.{has}
+use Rattle.rows.specs.Answer.{noGroup}
+use Rattle.rows.proofs.Row.{every-at}
+use Rattle.quantity.specs.Signed.{posPart, negPart}
+use Rattle.quantity.proofs.Parts.{by-parts}
+use Rattle.bits.specs.Field.{Bytes}
+use Rattle.bits.proofs.Bits.{length-setBit, bytes-setBit, bytes-zeros}
+use Rattle.grid.specs.Excess.{any}
+use Rattle.grid.proofs.Without.{ends-without}
+use Rattle.grid.proofs.Tests.{_&_, _⇒_, and-left, and-right, imply}
+use Rattle.grid.proofs.Trial.{any-decided, crosses-decided, mostTest, most-sound, smallestTest, smallest-sound}
+use Rattle.layout.specs.Book.{Book, buses, count, injection, branch, size, WellFormed}
+use Rattle.layout.specs.Fault.{branchFault}
+use Rattle.layout.specs.Check.{outside, balances}
+use Rattle.layout.proofs.Faults.{sound-branch}
+use Rattle.layout.proofs.Accept.{in-range}
+use Rattle.layout.proofs.WellFormed.{balance-sum}
+use Rattle.verdict.specs.Case.{Case, Posed}
+use Rattle.verdict.specs.Excess.{base, lossNet, separates, NoExcess, Overload, Short, Carries}
+use Rattle.verdict.specs.Record.{verdictOf, shortageOf, groupOf, Zero, Told, opened, carrying, lacking, TrueRecord}
+use Rattle.verdict.proofs.Fitting.{ends}
+use Rattle.verdict.proofs.Loss.{never-both}
+use Rattle.verdict.proofs.Unique.{first-twenty}
+use Rattle.record.specs.Bytes.{recordBytes}
+use Rattle.record.proofs.Made.{record-long, record-verdict, record-shortage, record-group, record-bytes, record-plain, record-tail}
+use Rattle.screen.proofs.Judging.{none, none-at, clipped}
+use Rattle.examples.specs.Row.{Sight, out, carries, short, groupBytes, sightBytes}
+
+-- ---- A well-formed book.
+unfoldable pub wellTest : Book → Bool
+wellTest b =
+    not (outside (buses b) (count b) (b .factor))
+    & (every (buses b) (λ k. leb (size (injection b k)) 1000000)
+    & (every (count b) (λ k. eqb (branchFault (buses b) (branch b k)) 0)
+    & balances (buses b) (injection b)))
+
+pub well-sound : (b : Book) → wellTest b ≡ true → WellFormed b
+unfolding wellTest
+well-sound b t =
+    let t₁ = and-right _ _ t in
+    let t₂ = and-right _ _ t₁ in
+    let r = in-range (buses b) (count b) (b .factor) (not-true _ (and-left _ _ t)) in
+    record {
+      some-bus = r .some-bus;
+      few-buses = r .few-buses;
+      few-branches = r .few-branches;
+      some-factor = r .some-factor;
+      small-factor = r .small-factor;
+      sizes = λ k u. leb-true _ _ (every-at _ (buses b) (and-left _ _ t₁) k u);
+      good = λ k u. sound-branch (buses b) (branch b k) (eqb-true _ _ (every-at _ (count b) (and-left _ _ t₂) k u));
+      balanced = balance-sum (buses b) (injection b) (eqb-true _ _ (and-right _ _ t₂));
+    }
+
+-- ---- Signed numbers.
+unfoldable pub sameNumbers : List ℤ → List ℤ → Bool
+sameNumbers [] [] = true
+sameNumbers [] (y ∷ ys) = false
+sameNumbers (x ∷ xs) [] = false
+sameNumbers (x ∷ xs) (y ∷ ys) = eqb (posPart x + negPart y) (negPart x + posPart y) & sameNumbers xs ys
+
+pub same-sound : (xs ys : List ℤ) → sameNumbers xs ys ≡ true → xs ≡ ys
+unfolding sameNumbers
+same-sound [] [] t = refl
+same-sound [] (y ∷ ys) t = absurd (true≢false (sym t))
+same-sound (x ∷ xs) [] t = absurd (true≢false (sym t))
+same-sound (x ∷ xs) (y ∷ ys) t = ap₂ _∷_ (by-parts x y (eqb-true _ _ (and-left _ _ t))) (same-sound xs ys (and-right _ _ t))
+
+-- ---- The bytes of a group.
+pub long-group : (g : List ℕ) → length (groupBytes g) ≡ 16
+unfolding groupBytes
+long-group [] = refl
+long-group (i ∷ g) = length-setBit (groupBytes g) i 1 ∙ long-group g
+
+pub bytes-group : (g : List ℕ) → Bytes (groupBytes g)
+unfolding groupBytes
+bytes-group [] = bytes-zeros 16
+bytes-group (i ∷ g) = bytes-setBit (groupBytes g) i 1 (omega arith) (bytes-group g)
+
+-- It has no bus from n on.
+unfoldable pub insideTest : ℕ → List ℕ → Bool
+insideTest n g = every 128 (λ i. leb n i ⇒ not (has (groupBytes g) i))
+
+pub inside-sound : (n : ℕ) (g : List ℕ) → insideTest n g ≡ true → (i : ℕ) → n ≤ i → has (groupBytes g) i ≡ false
+unfolding insideTest
+inside-sound n g t =
+    clipped n (groupBytes g) (long-group g) (λ i l u. not-true _ (imply (leb n i) _ (every-at (λ i. leb n i ⇒ not (has (groupBytes g) i)) 128 t i u) (le-leb n i l)))
+
+-- ---- The case.
+unfoldable pub overloadTest : Case → ℕ → List ℕ → Bool
+overloadTest C v g = ltb 0 v & (smallestTest (base C) any (has (groupBytes g)) v & insideTest (C .buses) g)
+
+unfoldable pub noExcessTest : Case → Bool
+noExcessTest C = mostTest (base C) any 0
+
+unfoldable pub sightTest : Case → ℕ → Sight → Bool
+sightTest C k out = not (C .served k)
+sightTest C k carries = C .served k & mostTest (lossNet C k) (separates C k) 0
+sightTest C k (short v g) =
+    C .served k
+    & (ltb 0 v
+    & (ltb v 16777216
+    & (smallestTest (lossNet C k) (separates C k) (has (groupBytes g)) v
+    & insideTest (C .buses) g)))
+
+module _ (C : Case) (p : Posed C) where
+  pub overload-sound : (v : ℕ) (g : List ℕ) → overloadTest C v g ≡ true → Overload C v (has (groupBytes g))
+  unfolding overloadTest
+  overload-sound v g t =
+      let t₁ = and-right _ _ t in
+      record {
+        above = ltb-true _ _ (and-left _ _ t);
+        smallest = smallest-sound (base C) (ends C (C .limit) p) any (any-decided (base C)) (has (groupBytes g)) v (and-left _ _ t₁);
+        beyond = inside-sound (C .buses) g (and-right _ _ t₁);
+      }
+
+  pub no-excess-sound : noExcessTest C ≡ true → NoExcess C
+  unfolding noExcessTest
+  no-excess-sound t S = most-sound (base C) (ends C (C .limit) p) any (any-decided (base C)) 0 t S refl
+
+  module _ (k : ℕ) (u : k < C .branches) where
+    carries-sound : mostTest (lossNet C k) (separates C k) 0 ≡ true → Carries C k
+    carries-sound t =
+        let e = ends-without _ k (ends C (C .loss-limit) p) in
+        most-sound (lossNet C k) e (separates C k) (crosses-decided (lossNet C k) e k u) 0 t
+
+    short-sound : (v : ℕ) (g : List ℕ) → ltb 0 v ≡ true → smallestTest (lossNet C k) (separates C k) (has (groupBytes g)) v ≡ true → Short C k v (has (groupBytes g))
+    short-sound v g a t =
+        let e = ends-without _ k (ends C (C .loss-limit) p) in
+        record { above = ltb-true _ _ a; smallest = smallest-sound (lossNet C k) e (separates C k) (crosses-decided (lossNet C k) e k u) (has (groupBytes g)) v t }
+
+-- ---- Bytes 0 to 19 of a true record.
+front-bytes : (v s : ℕ) (g h : List ℕ) → length g ≡ 16 → (j : ℕ) → j < 20 → nth (recordBytes v s g h) j ≡ nth (recordBytes v s g []) j
+unfolding recordBytes
+front-bytes v s g h l zero u = refl
+front-bytes v s g h l (suc zero) u = refl
+front-bytes v s g h l (suc (suc zero)) u = refl
+front-bytes v s g h l (suc (suc (suc zero))) u = refl
+front-bytes v s g h l (suc (suc (suc (suc j)))) u = List·getD-append g h 0 j (omega arith) ∙ ap (λ (x : List ℕ). nth x j) (sym (append-nil g))
+
+long-front : (v s : ℕ) (g : List ℕ) → length g ≡ 16 → length (recordBytes v s g []) ≡ 20
+unfolding recordBytes
+long-front v s g l = simp length-append (omega arith)
+
+front-is : (rec : List ℕ) (v s : ℕ) (g h : List ℕ) → length rec ≡ 52 → length g ≡ 16 → ((j : ℕ) → j < 20 → nth rec j ≡ nth (recordBytes v s g h) j) → take 20 rec ≡ recordBytes v s g []
+front-is rec v s g h lr lg e =
+    let long : length (take 20 rec) ≡ 20 = length-take 20 rec ∙ omega arith in
+    ext-getD 0 (take 20 rec) (recordBytes v s g []) (long ∙ sym (long-front v s g lg)) (λ j l.
+    let l′ : j < 20 = omega arith in
+    getD-take 20 rec j 0 l′ ∙ e j l′ ∙ front-bytes v s g h lg j l′)
+
+-- A record without shortage and group.
+plain-front : (rec : List ℕ) (v : ℕ) → verdictOf rec ≡ v → Zero rec 1 20 → (j : ℕ) → j < 20 → nth rec j ≡ nth (recordBytes v 0 noGroup (none 32)) j
+plain-front rec v e z zero u = e ∙ sym (record-verdict v 0 noGroup (none 32) refl refl)
+plain-front rec v e z (suc j) u = z (suc j) (omega arith) u ∙ sym (record-plain v 0 noGroup (none 32) refl refl refl (none-at 16) (suc j) (omega arith) u)
+
+-- A short branch's record, its reroute zero, is true.
+short-true : (C : Case) (f : ℕ → ℤ) (k v : ℕ) (g : List ℕ) → length g ≡ 16 → Bytes g → C .served k ≡ true → v < 16777216 → Short C k v (has g) → ((i : ℕ) → C .buses ≤ i → has g i ≡ false)
+    → TrueRecord C f k (recordBytes 2 v g (none 32))
+short-true C f k v g lg bg i lv s z = record {
+  long = record-long 2 v g (none 32) lg refl;
+  bytes = record-bytes 2 v g (none 32) lg refl (omega arith) lv bg (bytes-zeros 32);
+  told = lacking i
+      (rw (record-shortage 2 v g (none 32) lg refl lv, fun-ext (record-group 2 v g (none 32) lg refl)) s)
+      (record-verdict 2 v g (none 32) lg refl)
+      (λ j l. record-group 2 v g (none 32) lg refl j ∙ z j l)
+      (λ j l u. record-tail 2 v g (none 32) lg refl j l ∙ none-at 32 (j - 20));
+}
+
+pub sight-sound : (C : Case) (f : ℕ → ℤ) (k : ℕ) (rec : List ℕ) → Posed C → k < C .branches → TrueRecord C f k rec → (s : Sight) → sightTest C k s ≡ true → take 20 rec ≡ sightBytes s
+unfolding sightTest sightBytes
+sight-sound C f k rec p u t out w = front-is rec 0 0 noGroup (none 32) (t .long) refl (go (t .told))
+  where
+    off : C .served k ≡ false
+    off = not-true _ w
+
+    go : Told C f k rec → (j : ℕ) → j < 20 → nth rec j ≡ nth (recordBytes 0 0 noGroup (none 32)) j
+    go (opened i v z) = plain-front rec 0 v (λ j l h. z j l (omega arith))
+    go (carrying i c v z m) = absurd (true≢false (sym i ∙ off))
+    go (lacking i s v z m) = absurd (true≢false (sym i ∙ off))
+sight-sound C f k rec p u t carries w = front-is rec 1 0 noGroup (none 32) (t .long) refl (go (t .told))
+  where
+    go : Told C f k rec → (j : ℕ) → j < 20 → nth rec j ≡ nth (recordBytes 1 0 noGroup (none 32)) j
+    go (opened i v z) = absurd (true≢false (sym (and-left _ _ w) ∙ i))
+    go (carrying i c v z m) = plain-front rec 1 v z
+    go (lacking i s v z m) = absurd (never-both C k (shortageOf rec) (groupOf rec) (carries-sound C p k u (and-right _ _ w)) s)
+sight-sound C f k rec p u t (short v g) w =
+    let w₁ = and-right _ _ w in
+    let w₂ = and-right _ _ w₁ in
+    let w₃ = and-right _ _ w₂ in
+    let s = short-sound C p k u v g (and-left _ _ w₁) (and-left _ _ w₃) in
+    let canon = short-true C f k v (groupBytes g) (long-group g) (bytes-group g) (and-left _ _ w) (ltb-true _ _ (and-left _ _ w₂)) s (inside-sound (C .buses) g (and-right _ _ w₃)) in
+    front-is rec 2 v (groupBytes g) (none 32) (t .long) (long-group g) (first-twenty C f f k rec (recordBytes 2 v (groupBytes g) (none 32)) t canon)

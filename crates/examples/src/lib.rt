@@ -1,0 +1,1 @@
+// The table of marked examples, under one theorem. Theorems alone.
