@@ -12,7 +12,9 @@ use Rattle.rows.proofs.Sum.{side, below, equal, above}
 use Rattle.rows.specs.Row.{nth, headed}
 use Rattle.rows.proofs.Row.{headed-rest, length-headed}
 use Rattle.rows.specs.Bit.{has}
-use Rattle.rows.specs.Answer.{bare, accepted, refused, overloaded}
+use Rattle.rows.specs.Answer.{numberOf, bare, accepted, refused, overloaded}
+use Rattle.rows.proofs.Refusals.{refusal-stands}
+use Rattle.rows.specs.declared.Answer.{Answer}
 use Rattle.rows.specs.declared.Outcome.{Outcome}
 use Rattle.rows.specs.declared.Outcome.the-variants.{Accepted}
 use Rattle.quantity.specs.Signed.{posPart, negPart}
@@ -36,14 +38,15 @@ use Rattle.screen.proofs.Opening.{well, plannable, held, gain-is, load-is}
 use Rattle.screen.proofs.Ending.{Flat}
 use Rattle.screen.proofs.Judging.{losable}
 use Rattle.outage.specs.Fit.{Lendable, Fitted}
-use Rattle.outage.specs.Shortlist.{Marked, Refreshed}
-use Rattle.outage.specs.Promise.{Touched, itself, changed, takeCheck, Unchanged, TakeEnds, refuses, unfit, overloads, accepts}
+use Rattle.outage.specs.Shortlist.{Marked, Redone}
+use Rattle.outage.specs.Promise.{Touched, itself, changed, takeCheck, Unchanged, answerOf, TakeCounted, refuses, unfit, overloads, accepts}
 use Rattle.outage.specs.declared.Lent.{Lent}
 use Rattle.outage.proofs.Checking.{Takeable, takeable}
 use Rattle.outage.proofs.Clearing.{cleared}
 use Rattle.outage.proofs.Lending as lending
 use Rattle.outage.proofs.Leaving as leaving
-use Rattle.outage.proofs.Shortlisting.{updated}
+use Rattle.outage.proofs.Shortlisting.{updated, judges}
+use Rattle.outage.specs.declared.Taken.{Taken}
 
 module _ (bs : List ℕ) (flow : List ℤ) (table : List ℕ) (b : ℕ) where
   abbrev checks : Outcome
@@ -55,8 +58,8 @@ module _ (bs : List ℕ) (flow : List ℤ) (table : List ℕ) (b : ℕ) where
   same : Unchanged bs flow table bs flow table
   same = record { book-kept = refl; flow-kept = refl; table-kept = refl }
 
-  pub ends-refused : (o : Outcome) → o ≡ checks → (o ≡ Accepted → ⊥) → TakeEnds bs flow table b bs flow table (bare o)
-  ends-refused o e n = refuses (λ q. n (e ∙ q)) (ap bare e) same
+  pub ends-refused : {r : Taken} (o : Outcome) → o ≡ checks → (o ≡ Accepted → ⊥) → answerOf r ≡ bare o → TakeCounted bs flow table b bs flow table r
+  ends-refused o e n a = record { ends = refuses (λ q. n (e ∙ q)) (a ∙ ap bare e) same; judges = λ q. absurd (n (ap (λ (x : Answer). x .outcome) (sym a ∙ q))) }
 
   level : Flat (caseOf (bookOf bs))
   unfolding caseOf
@@ -109,8 +112,11 @@ module _ (bs : List ℕ) (flow : List ℤ) (table : List ℕ) (b : ℕ) where
             (λ i. (rw (ap (λ (l : ℕ → ℕ). l i) gains) (small i .0), rw (ap (λ (l : ℕ → ℕ). l i) loads) (small i .1)))
 
         module _ (x : Lent) (d : Fitted (q .wires) flow (q .live) (q .gain) (q .load) x) where
-          pub ends-unfit : x .within ≡ false → TakeEnds bs flow table b bs flow table (refused 11)
-          ends-unfit e = unfit ok (lending.fit-not C level (q .wires) (q .served) (q .live) (q .gain) (q .load) held-here gains loads flow x d e) refl same
+          pub ends-unfit : {t : Taken} → x .within ≡ false → answerOf t ≡ refused 11 → TakeCounted bs flow table b bs flow table t
+          ends-unfit e a = record {
+            ends = unfit ok (lending.fit-not C level (q .wires) (q .served) (q .live) (q .gain) (q .load) held-here gains loads flow x d e) a same;
+            judges = λ q. absurd (refusal-stands 11 (ap (λ (x : Answer). x .outcome) (sym a ∙ q)));
+          }
 
           module _ (e : x .within ≡ true) where
             state : State C (on flow) (q .wires) (q .served) (q .live) (x .latent .ahead) (x .latent .back)
@@ -120,9 +126,12 @@ module _ (bs : List ℕ) (flow : List ℤ) (table : List ℕ) (b : ℕ) where
             losable-here = losable C (on flow) (q .wires) (q .served) (q .live) (x .latent .ahead) (x .latent .back) state b (sizes .2)
 
             module _ (named : List ℕ) (y : Judgement) (z : Replaced (q .wires) (q .live) (x .latent .ahead) (x .latent .back) named b y) where
-              pub ends-short : (v : ℕ) → y .verdict ≡ Short v → length (y .group) ≡ 16 → TakeEnds bs flow table b bs flow table (overloaded v (y .group))
-              ends-short v w l = overloads ok (state .fits)
-                  (leaving.overload-out C level flow (q .wires) (q .served) (q .live) (x .latent .ahead) (x .latent .back) state b there named y z v w l) same
+              pub ends-short : {t : Taken} (v : ℕ) → y .verdict ≡ Short v → length (y .group) ≡ 16 → answerOf t ≡ overloaded v (y .group) → TakeCounted bs flow table b bs flow table t
+              ends-short v w l a = record {
+                ends = overloads ok (state .fits)
+                    (rw a (leaving.overload-out C level flow (q .wires) (q .served) (q .live) (x .latent .ahead) (x .latent .back) state b there named y z v w l)) same;
+                judges = λ q. absurd (omega (arith, ap (λ (x : Answer). numberOf (x .outcome)) (sym a ∙ q)));
+              }
 
               module _ (ls : length (q .served) ≡ 256) (ll : length (q .live) ≡ 256) where
                 pub fillable-here : {live : List ℕ} → live ≡ set (q .live) b 0 → Fillable (q .wires .branches) live (y .ahead) (length flow)
@@ -168,21 +177,25 @@ module _ (bs : List ℕ) (flow : List ℤ) (table : List ℕ) (b : ℕ) where
                     ]
 
                     pub ends-taken :
-                        {bs′ table′ : List ℕ} → named ≡ take 32 (drop 20 (recordAt table b)) → bs′ ≡ setBit bs (statusBit (q .wires .buses) b) 0
-                        → ((D : Case) (f : ℕ → ℤ) → State D f (q .wires) served live (y .ahead) (y .back) → Refreshed D f served touched (D .branches) table table′)
-                        → TakeEnds bs flow table b bs′ flow′ table′ accepted
-                    ends-taken {bs′} {table′} named-is book-is fresh =
+                        {bs′ table′ : List ℕ} {losses : ℕ} {t : Taken} → answerOf t ≡ accepted → t .judged ≡ losses → named ≡ take 32 (drop 20 (recordAt table b)) → bs′ ≡ setBit bs (statusBit (q .wires .buses) b) 0
+                        → ((D : Case) (f : ℕ → ℤ) → State D f (q .wires) served live (y .ahead) (y .back) → Redone D f served touched table table′ losses)
+                        → TakeCounted bs flow table b bs′ flow′ table′ t
+                    ends-taken {bs′} {table′} {losses} {t} a losses-are named-is book-is fresh =
                         let i : bs′ ≡ setBit bs (statusBit (busesIn bs) b) 0 = book-is ∙ ap (λ (n : ℕ). setBit bs (statusBit n b) 0) buses-here in
                         let c = cleared bs b (may .book) (may .there) in
                         let n : q .wires .branches ≤ length flow = omega (arith, may .flow-room, count-here) in
                         let f : ℕ → ℤ = λ j. pos (nth (set (q .live) b 0) j) -ℤ pos (nth (y .ahead) j) in
-                        accepts ok (state .fits) refl (record {
-                          book-is = i;
-                          book-accepted = rw i (c .book);
-                          case-is = rw i (c .case-is);
-                          updated = updated (out C b) served touched (Touched (on flow) (on flow′) b) (held-here .posed .few-branches) (state-left .held .served-is) marks only table
-                              (state-left .fits) (fresh (out C b) (on flow′) state-left) (ap length flow-is ∙ length-headed (q .wires .branches) f flow n)
-                              (λ k u. rw flow-is (headed-rest (q .wires .branches) f flow k (pos 0) (omega (arith, held-here .branches-are))));
-                          idle = leaving.idle-out C level flow (q .wires) (q .served) (q .live) (x .latent .ahead) (x .latent .back) state b there named y z ls ll flow′ flow-is;
-                          confined = leaving.confined-out C level flow (q .wires) (q .served) (q .live) (x .latent .ahead) (x .latent .back) state b there named y z ls ll flow′ flow-is (recordAt table b) named-is;
-                        })
+                        let redone = fresh (out C b) (on flow′) state-left in
+                        record {
+                          judges = λ _. judges (out C b) served touched (Touched (on flow) (on flow′) b) (held-here .posed .few-branches) (state-left .held .served-is) marks only table (losses-are ∙ redone .judged-is);
+                          ends = accepts ok (state .fits) a (record {
+                            book-is = i;
+                            book-accepted = rw i (c .book);
+                            case-is = rw i (c .case-is);
+                            updated = updated (out C b) served touched (Touched (on flow) (on flow′) b) (held-here .posed .few-branches) (state-left .held .served-is) marks only table
+                                (state-left .fits) (redone .refreshed) (ap length flow-is ∙ length-headed (q .wires .branches) f flow n)
+                                (λ k u. rw flow-is (headed-rest (q .wires .branches) f flow k (pos 0) (omega (arith, held-here .branches-are))));
+                            idle = leaving.idle-out C level flow (q .wires) (q .served) (q .live) (x .latent .ahead) (x .latent .back) state b there named y z ls ll flow′ flow-is;
+                            confined = leaving.confined-out C level flow (q .wires) (q .served) (q .live) (x .latent .ahead) (x .latent .back) state b there named y z ls ll flow′ flow-is (recordAt table b) named-is;
+                          });
+                        }

@@ -20,7 +20,8 @@ use Rattle.verdict.specs.Record.{recordAt, verdictOf, names}
 use Rattle.verdict.specs.Update.{Shortlisted, not-served, not-carrying, is-touched, names-touched, Updated}
 use Rattle.record.specs.Bytes.{listed}
 use Rattle.screen.specs.State.{Differs, Changed}
-use Rattle.outage.specs.Shortlist.{listedAt, Marked, Refreshed}
+use Rattle.outage.specs.Shortlist.{listedAt, judgedOf, Marked, Refreshed}
+use Rattle.outage.specs.Promise.{Judges}
 
 -- ---- The bits of touched branches.
 pub marked : {n : ℕ} {a b : List ℕ} {k : ℕ} {row : List ℕ} → n ≤ 256 → k < n → Changed n a b k row → Marked n a b k (setBit row k 1)
@@ -105,3 +106,20 @@ module _ (C : Case) (served : List Bool) (touched : List ℕ) (T : ℕ → Type 
     kept = λ k u h. r .kept k u (unlisted k u h);
     beyond = record { flow-long = long; flow-rest = rest; table-long = r .long; table-rest = r .rest };
   }
+
+  -- The losses counted are those of shortlisted records in service.
+  pub judges : {n : ℕ} → n ≡ judgedOf served touched table (C .branches) → Judges C T table n
+  judges e = record {
+    judged = λ k. listedAt served touched table k && getD served k false;
+    if-listed = λ k u h s. rw (shortlisted-listed k u h, served-is k, s) refl;
+    if-not = λ k u h. off k u h (C .served k) refl;
+    count = e;
+  }
+    where
+      no : (x : Bool) → (x && false) ≡ false
+      no true = refl
+      no false = refl
+
+      off : (k : ℕ) → k < C .branches → (Shortlisted C table T k → C .served k ≡ true → ⊥) → (s : Bool) → C .served k ≡ s → (listedAt served touched table k && getD served k false) ≡ false
+      off k u h true e = rw (unlisted k u (λ l. h l e)) refl
+      off k u h false e = rw (served-is k, e) (no (listedAt served touched table k))

@@ -1,6 +1,6 @@
 -- What `take_out` promises.
 use mathlib.Core.Path.{_≡_}
-use mathlib.Core.Bool.{false, not}
+use mathlib.Core.Bool.{Bool, true, false, not}
 use mathlib.Core.List.{List}
 use Prim.Native.Nat.{ℕ, _<_}
 use lib.Dec.{leb}
@@ -15,7 +15,9 @@ use Rattle.layout.specs.Layout.{busesIn, branchesIn, statusBit, bookOf}
 use Rattle.layout.specs.Check.{checkOf}
 use Rattle.verdict.specs.Case.{Case, out, on, Fits}
 use Rattle.verdict.specs.Record.{recordAt, names}
-use Rattle.verdict.specs.Update.{Updated}
+use Rattle.verdict.specs.Update.{Shortlisted, Updated}
+use Rattle.rows.specs.Sum.{over}
+use Rattle.outage.specs.declared.Taken.{Taken}
 use Rattle.screen.specs.Case.{caseOf}
 use Rattle.screen.specs.Promise.{screenCheck, Overloaded}
 
@@ -63,3 +65,18 @@ pub data TakeEnds (bs : List ℕ) (flow : List ℤ) (table : List ℕ) (b : ℕ)
       → Overloaded (out (caseOf (bookOf bs)) b) r → Unchanged bs flow table bs′ flow′ table′ → TakeEnds bs flow table b bs′ flow′ table′ r
   accepts : takeCheck bs (length flow) (length table) b ≡ Accepted → Fits (caseOf (bookOf bs)) (caseOf (bookOf bs) .limit) (on flow)
       → r ≡ accepted → TakenOut bs flow table b bs′ flow′ table′ → TakeEnds bs flow table b bs′ flow′ table′ r
+
+-- ---- The same call, with the losses that were judged on the way.
+abbrev pub answerOf : Taken → Answer
+answerOf r = record { outcome = r .outcome; group = r .group }
+
+-- As many losses as there are records on the shortlist and in service.
+pub record Judges (C : Case) (touched : ℕ → Type 0) (table : List ℕ) (n : ℕ) : Type 0 where
+  pub judged : ℕ → Bool
+  pub if-listed : (k : ℕ) → k < C .branches → Shortlisted C table touched k → C .served k ≡ true → judged k ≡ true
+  pub if-not : (k : ℕ) → k < C .branches → (Shortlisted C table touched k → C .served k ≡ true → ⊥) → judged k ≡ false
+  pub count : n ≡ over (C .branches) judged (λ k. 1)
+
+pub record TakeCounted (bs : List ℕ) (flow : List ℤ) (table : List ℕ) (b : ℕ) (bs′ : List ℕ) (flow′ : List ℤ) (table′ : List ℕ) (r : Taken) : Type 0 where
+  pub ends : TakeEnds bs flow table b bs′ flow′ table′ (answerOf r)
+  pub judges : answerOf r ≡ accepted → Judges (out (caseOf (bookOf bs)) b) (Touched (on flow) (on flow′) b) table (r .judged)

@@ -6,11 +6,13 @@ ghost use lib.IntN.{ℤ};
 ghost use lib.ListN.{length, set};
 ghost use lib.Dec.{eqb};
 ghost use Rattle.rows.specs.Row.{nth, every};
-ghost use Rattle.verdict.specs.Case.{Case, on};
+ghost use Rattle.rows.specs.Sum.{pick};
+ghost use Rattle.verdict.specs.Case.{Case};
 ghost use Rattle.screen.specs.State.{Poised, State};
 ghost use Rattle.outage.specs.Fit.{Lently, Tested, Countable, Counted, Lendable, Fitted};
-ghost use Rattle.outage.specs.Shortlist.{Marked, listedAt, Refreshed};
-ghost use Rattle.outage.specs.Promise.{takeCheck, TakeEnds};
+ghost use Rattle.outage.specs.Shortlist.{Marked, listedAt, Redone};
+ghost use Rattle.outage.specs.Promise.{takeCheck, TakeEnds, answerOf, TakeCounted};
+ghost use Rattle.rows.specs.Answer.{bare};
 use reroute::Latent;
 use reroute::Verdict;
 use rows::Answer;
@@ -157,7 +159,17 @@ fn is_listed(table: &[u8], served: [bool; 256], touched: [u8; 32], k: usize) -> 
     record::listed_at(table, k, touched)
 }
 
-// Records on the shortlist are written anew; each is tested before it is written, so that the table as lent decides.
+fn counted(judged: usize, more: bool) -> usize
+    requires { ⌜ judged < 256 ⌝ }
+    ensures { λ r. ⌜ r ≡ judged + pick more 1 ⌝ }
+{
+    if more {
+        return judged + 1;
+    }
+    judged
+}
+
+// Records on the shortlist are written anew, and the losses judged for them counted; each is tested before it is written, so that the table as lent decides.
 fn refresh(
     table: &mut [u8],
     wires: Wires,
@@ -165,17 +177,20 @@ fn refresh(
     live: [u32; 256],
     latent: Latent,
     touched: [u8; 32],
-)
+) -> usize
     requires { ⌜ Poised wires served live (latent .ahead) (latent .back) × (52 * wires .branches ≤ length (now table)) ⌝ }
-    ensures { λ _. ⌜ ((C : Case) (f : ℕ → ℤ) → State C f wires served live (latent .ahead) (latent .back) → Refreshed C f served touched (C .branches) (now (table .entry)) (now (table .exit))) ⌝ }
+    ensures { λ r. ⌜ ((C : Case) (f : ℕ → ℤ) → State C f wires served live (latent .ahead) (latent .back) → Redone C f served touched (now (table .entry)) (now (table .exit)) r) ⌝ }
 {
+    let mut judged: usize = 0;
     let mut k: usize = 0;
     while k < wires.branches {
         if is_listed(table, served, touched, k) {
             screen::put_verdict(table, wires, served, live, latent, k);
+            judged = counted(judged, served[k]);
         }
         k += 1;
     }
+    judged
 }
 
 // Refusals 1 to 10.
@@ -221,13 +236,31 @@ fn cut(live: [u32; 256], k: usize) -> [u32; 256]
     row
 }
 
+// An answer, and how many losses were judged for it.
+pub struct Taken {
+    pub outcome: Outcome,
+    pub group: [u8; 16],
+    pub judged: usize,
+}
+
+fn told(outcome: Outcome, judged: usize) -> Taken
+    ensures { λ r. ⌜ (answerOf r ≡ bare outcome) × (r .judged ≡ judged) ⌝ }
+{
+    Taken {
+        outcome,
+        group: [0u8; 16],
+        judged,
+    }
+}
+
 // Refusals 1 to 12; accepted, one status bit is cleared, the flow is rerouted, and the shortlist is written anew.
-pub fn take_out(book: &mut [u8], flow: &mut [i32], table: &mut [u8], branch: usize) -> Answer
-    ensures { λ r. ⌜ TakeEnds (now (book .entry)) (now (flow .entry)) (now (table .entry)) branch (now (book .exit)) (now (flow .exit)) (now (table .exit)) r ⌝ }
+// The losses judged on the way are counted.
+pub fn take_out_counted(book: &mut [u8], flow: &mut [i32], table: &mut [u8], branch: usize) -> Taken
+    ensures { λ r. ⌜ TakeCounted (now (book .entry)) (now (flow .entry)) (now (table .entry)) branch (now (book .exit)) (now (flow .exit)) (now (table .exit)) r ⌝ }
 {
     let found = check(book, flow.len(), table.len(), branch);
     let Outcome::Accepted = found else {
-        return rows::answer_with(found);
+        return told(found, 0);
     };
     let plan = screen::prepare(book::rows_of(book));
     let wires = plan.wires;
@@ -237,7 +270,7 @@ pub fn take_out(book: &mut [u8], flow: &mut [i32], table: &mut [u8], branch: usi
     let lent = fit(flow, wires, live, gain, load);
     let within = lent.within;
     if !within {
-        return rows::answer_with(rows::refuse(11));
+        return told(rows::refuse(11), 0);
     }
     let latent = lent.latent;
     let named = record::reroute_at(table, branch);
@@ -247,9 +280,10 @@ pub fn take_out(book: &mut [u8], flow: &mut [i32], table: &mut [u8], branch: usi
     let back = judged.back;
     if let Verdict::Short { excess } = verdict {
         let group = judged.group;
-        return Answer {
+        return Taken {
             outcome: Outcome::Overloaded(excess),
             group,
+            judged: 0,
         };
     }
     let before = latent.ahead;
@@ -258,7 +292,7 @@ pub fn take_out(book: &mut [u8], flow: &mut [i32], table: &mut [u8], branch: usi
     let served = closed(serving, branch);
     let limits = cut(live, branch);
     screen::fill_flow(flow, wires.branches, limits, ahead);
-    refresh(
+    let losses = refresh(
         table,
         wires,
         served,
@@ -267,5 +301,14 @@ pub fn take_out(book: &mut [u8], flow: &mut [i32], table: &mut [u8], branch: usi
         touched,
     );
     book::set_status(book, wires.buses, branch, 0);
-    rows::answer_with(Outcome::Accepted)
+    told(Outcome::Accepted, losses)
+}
+
+pub fn take_out(book: &mut [u8], flow: &mut [i32], table: &mut [u8], branch: usize) -> Answer
+    ensures { λ r. ⌜ TakeEnds (now (book .entry)) (now (flow .entry)) (now (table .entry)) branch (now (book .exit)) (now (flow .exit)) (now (table .exit)) r ⌝ }
+{
+    let taken = take_out_counted(book, flow, table, branch);
+    let outcome = taken.outcome;
+    let group = taken.group;
+    Answer { outcome, group }
 }
