@@ -12,7 +12,7 @@ ghost use Rattle.screen.specs.State.{Poised, State};
 ghost use Rattle.outage.specs.Fit.{Lently, Tested, Countable, Counted, Lendable, Fitted};
 ghost use Rattle.outage.specs.Shortlist.{Marked, listedAt, Redone};
 ghost use Rattle.outage.specs.Promise.{takeCheck, TakeEnds, answerOf, TakeCounted};
-ghost use Rattle.rows.specs.Answer.{bare};
+ghost use Rattle.rows.specs.Answer.{bare, overloaded};
 use reroute::Latent;
 use reroute::Verdict;
 use rows::Answer;
@@ -253,6 +253,16 @@ fn told(outcome: Outcome, judged: usize) -> Taken
     }
 }
 
+fn short(excess: u32, group: [u8; 16]) -> Taken
+    ensures { λ r. ⌜ answerOf r ≡ overloaded excess group ⌝ }
+{
+    Taken {
+        outcome: Outcome::Overloaded(excess),
+        group,
+        judged: 0,
+    }
+}
+
 // Refusals 1 to 12; accepted, one status bit is cleared, the flow is rerouted, and the shortlist is written anew.
 // The losses judged on the way are counted.
 pub fn take_out_counted(book: &mut [u8], flow: &mut [i32], table: &mut [u8], branch: usize) -> Taken
@@ -280,11 +290,7 @@ pub fn take_out_counted(book: &mut [u8], flow: &mut [i32], table: &mut [u8], bra
     let back = judged.back;
     if let Verdict::Short { excess } = verdict {
         let group = judged.group;
-        return Taken {
-            outcome: Outcome::Overloaded(excess),
-            group,
-            judged: 0,
-        };
+        return short(excess, group);
     }
     let before = latent.ahead;
     let touched = touch(wires.branches, before, ahead, branch);
@@ -292,14 +298,8 @@ pub fn take_out_counted(book: &mut [u8], flow: &mut [i32], table: &mut [u8], bra
     let served = closed(serving, branch);
     let limits = cut(live, branch);
     screen::fill_flow(flow, wires.branches, limits, ahead);
-    let losses = refresh(
-        table,
-        wires,
-        served,
-        limits,
-        Latent { ahead, back },
-        touched,
-    );
+    let after = Latent { ahead, back };
+    let losses = refresh(table, wires, served, limits, after, touched);
     book::set_status(book, wires.buses, branch, 0);
     told(Outcome::Accepted, losses)
 }

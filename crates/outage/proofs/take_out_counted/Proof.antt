@@ -1,6 +1,6 @@
 use borrow.Author.Needs.{needs}
 use native.Mathlib.Omega.{arith}
-use mathlib.Core.Path.{_≡_, refl, sym, ap, _∙_}
+use mathlib.Core.Path.{_≡_, sym, ap, _∙_}
 use Prim.Native.Nat.{ℕ}
 use lib.ListN.{length}
 use mathlib.Core.List.{List}
@@ -99,6 +99,9 @@ replace-requires c κs =
 enum-known-verdict : tie.Need-enum-known-verdict
 enum-known-verdict c = search needs
 
+short-requires : tie.Need-short-requires
+short-requires c κs = search needs
+
 same-length-4 : tie.Need-same-length-4
 same-length-4 c = search needs
 
@@ -110,8 +113,8 @@ same-length-6 c = search needs
 
 returns-3 : tie.Need-returns-3
 returns-3 c =
-    let t = c .before .before .before .before .before .before .before .before .before .before .before .before .before .before .before .before .before .before .before .before in
-    ends-short (bytes t) (lent-flow t) (lent-table t) (lost t) (ok t) _ (c .before .before .before .before .before .before .before .before .before .before .before .before .before .before .before .before .before .before .rows-of .ensures) _ (c .before .before .before .before .before .before .before .before .before .before .before .before .before .before .before .before .before .prepare .ensures) _ (c .before .before .before .before .before .before .before .before .before .before .before .fit .ensures) (not-false _ (c .before .before .before .before .before .before .before .before .before .before .if1 .left)) _ _ (c .before .before .before .before .before .before .replace .ensures) _ (c .before .before .verdict .given .1) (group-long (c .before .before .before .before .before .before)) refl
+    let t = c .before .before .before .before .before .before .before .before .before .before .before .before .before .before .before .before .before .before .before .before .before in
+    ends-short (bytes t) (lent-flow t) (lent-table t) (lost t) (ok t) _ (c .before .before .before .before .before .before .before .before .before .before .before .before .before .before .before .before .before .before .before .rows-of .ensures) _ (c .before .before .before .before .before .before .before .before .before .before .before .before .before .before .before .before .before .before .prepare .ensures) _ (c .before .before .before .before .before .before .before .before .before .before .before .before .fit .ensures) (not-false _ (c .before .before .before .before .before .before .before .before .before .before .before .if1 .left)) _ _ (c .before .before .before .before .before .before .before .replace .ensures) _ (c .before .before .before .verdict .given .1) (group-long (c .before .before .before .before .before .before .before)) (c .short .ensures)
 
 enum-told-2 : tie.Need-enum-told-2
 enum-told-2 c = search needs
@@ -190,6 +193,7 @@ take-out-counted-spec =
     reroute-at-requires
     replace-requires
     enum-known-verdict
+    short-requires
     same-length-4
     same-length-5
     same-length-6
