@@ -1,6 +1,7 @@
 // Document 01's list of a book, written to standard output.
 ghost use mathlib.Core.Path.{_≡_};
 ghost use lib.ListN.{length};
+ghost use Rattle.printing.specs.List.{Answers};
 use libc::STDOUT_FILENO;
 use rows::Answer;
 use rows::Outcome;
@@ -87,15 +88,18 @@ fn list(book: &[u8], table: &[u8])
     }
 }
 
-// The list of a book, or its refusal in one line.
-pub fn print_list(book: &[u8]) {
+// The list of a book, or its refusal in one line; the answer that it was made from comes back.
+pub fn print_list(book: &[u8]) -> Answer
+    ensures { λ r. ⌜ Answers (now (book .entry)) r ⌝ }
+{
     let mut flow = [0i32; 256];
     let mut table = [0u8; 13312];
     let answer = screen::screen(book, &mut flow, &mut table);
     let outcome = answer.outcome;
     let Outcome::Accepted = outcome else {
         refused(answer);
-        return;
+        return answer;
     };
     list(book, &table);
+    answer
 }
