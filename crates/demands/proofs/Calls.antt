@@ -1,18 +1,16 @@
 -- What each end of an outage call says; the book without a branch makes the case without it; a call keeps a true table true.
 use mathlib.Core.Path.{_≡_, refl, sym}
-use mathlib.Core.Bool.{true, false, not}
+use mathlib.Core.Bool.{false}
 use mathlib.Core.List.{List}
-use Prim.Native.Nat.{ℕ, _<_}
+use Prim.Native.Nat.{ℕ}
 use native.Mathlib.Omega.{arith}
 use native.Mathlib.Decide.{ℕ-discrete}
-use borrow.Author.Tests.{leb-false, lt-leb, not-false}
-use lib.Dec.{leb}
+use borrow.Author.Tests.{lt-leb}
 use lib.IntN.{ℤ, ℤ-discrete}
 use lib.ListN.{length}
 use Rattle.rows.specs.Answer.{accepted}
 use Rattle.rows.specs.declared.Outcome.the-variants.{Accepted}
 use Rattle.rows.specs.declared.Answer.{Answer}
-use Rattle.rows.proofs.Refusals.{past, past-both}
 use Rattle.layout.specs.Book.{Book}
 use Rattle.layout.specs.Book as book
 use Rattle.layout.specs.Layout.{branchesIn, bookOf}
@@ -23,9 +21,9 @@ use Rattle.verdict.proofs.Loss.{Level}
 use Rattle.verdict.proofs.Keep.{Wired, stable}
 use Rattle.verdict.proofs.Updates.{Untouched, stays-true}
 use Rattle.screen.specs.Case.{caseOf}
-use Rattle.screen.specs.Promise.{screenCheck}
 use Rattle.outage.specs.Promise.{Touched, itself, changed, takeCheck, TakenOut, TakeEnds, refuses, unfit, overloads, accepts}
-use Rattle.demands.proofs.Ends.{Passed, passed, passing, is-bare, number-of, never-accepted, posed-book}
+use Rattle.outage.proofs.Checking.{Takeable, takeable}
+use Rattle.demands.proofs.Ends.{passing, is-bare, number-of, never-accepted, posed-book}
 
 -- The limits of the case of a book.
 pub level-of : (B : Book) → Level (caseOf B)
@@ -33,22 +31,9 @@ unfolding caseOf
 level-of B k = refl
 
 -- ---- The checks before a call.
-pub record Takeable (bs : List ℕ) (n m b : ℕ) : Type 0 where
-  pub passes : Passed bs n m
-  pub there : b < branchesIn bs
-  pub in-service : caseOf (bookOf bs) .served b ≡ true
-
-pub takeable : (bs : List ℕ) (n m b : ℕ) → takeCheck bs n m b ≡ Accepted → Takeable bs n m b
-unfolding takeCheck
-takeable bs n m b e =
-    let h = past-both (screenCheck bs n m) _ e in
-    let t = past (leb (branchesIn bs) b) 9 _ (h .1) in
-    let u = past (not (caseOf (bookOf bs) .served b)) 10 Accepted (t .1) in
-    record { passes = passed bs n m (h .0); there = leb-false (branchesIn bs) b (t .0); in-service = not-false _ (u .0) }
-
 pub taking : (bs : List ℕ) (n m b : ℕ) → Takeable bs n m b → takeCheck bs n m b ≡ Accepted
 unfolding takeCheck
-taking bs n m b t = rw (passing bs n m (t .passes), lt-leb (branchesIn bs) b (t .there), t .in-service) refl
+taking bs n m b t = rw (passing bs n m (record { book = t .book; flow-room = t .flow-room; table-room = t .table-room }), lt-leb (branchesIn bs) b (t .there), t .in-service) refl
 
 -- ---- The ends.
 pub record TakeDone (bs : List ℕ) (flow : List ℤ) (table : List ℕ) (b : ℕ) (bs′ : List ℕ) (flow′ : List ℤ) (table′ : List ℕ) : Type 0 where
@@ -64,7 +49,7 @@ module _ {bs bs′ : List ℕ} {flow flow′ : List ℤ} {table table′ : List 
   take-done (overloads c f o k) e = absurd (never-accepted (number-of (o .answer)) e)
   take-done (accepts c f a o) e =
       let t = takeable bs (length flow) (length table) b c in
-      record { passes = t; posed-case = posed-book bs (t .passes .book); fitted = f; took = o }
+      record { passes = t; posed-case = posed-book bs (t .book); fitted = f; took = o }
 
 -- ---- A true table stays true.
 pub touched? : (f g : ℕ → ℤ) (b j : ℕ) → Dec (Touched f g b j)

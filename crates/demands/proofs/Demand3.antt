@@ -106,11 +106,9 @@ module _ {bs : List ℕ} {flow : List ℤ} {table : List ℕ} (run : Run bs flow
     module _ (there : b < branchesIn bs) (in-service : caseOf (bookOf bs) .served b ≡ true) where
       pub call-checked : takeCheck bs (length flow) (length table) b ≡ Accepted
       call-checked = taking bs (length flow) (length table) b (record {
-        passes = record {
-          book = run-stands run .book;
-          flow-room = omega (arith, branches-of bs, run-true .room);
-          table-room = omega (arith, branches-of bs, run-true .long);
-        };
+        book = run-stands run .book;
+        flow-room = omega (arith, branches-of bs, run-true .room);
+        table-room = omega (arith, branches-of bs, run-true .long);
         there = there;
         in-service = in-service;
       })

@@ -62,7 +62,7 @@ module _ {bs : List ℕ} {flow flow′ : List ℤ} {table : List ℕ} {b : ℕ} 
 
   -- One that clears another bit: the branch's status bit is 0, and every other bit is as it was.
   pub one-bit-cleared : {bs′ table′ : List ℕ} → TakeEnds bs flow table b bs′ flow′ table′ r → r ≡ accepted → OneBit bs bs′ (statusBit (busesIn bs) b) 0
-  one-bit-cleared {bs′} e a = let d = take-done e a in status-set bs bs′ b 0 (d .passes .passes .book) (d .passes .there) (omega arith) (d .took .book-is) .one-bit
+  one-bit-cleared {bs′} e a = let d = take-done e a in status-set bs bs′ b 0 (d .passes .book) (d .passes .there) (omega arith) (d .took .book-is) .one-bit
 
   -- One that drops the flow and screens afresh, so that flow changed outside the recorded reroute.
   pub flow-dropped : {bs′ table′ : List ℕ} → Run bs flow table → TakeEnds bs flow table b bs′ flow′ table′ r → r ≡ accepted → verdictOf (recordAt table b) ≡ 1

@@ -20,7 +20,8 @@ use Rattle.outage.specs.Promise.{Touched, TakenOut, Unchanged, TakeEnds, refuse
 use Rattle.demands.specs.Same.{Alike, SameResult, SameCall}
 use Rattle.demands.proofs.Ends.{posed-book}
 use Rattle.demands.proofs.Unique.{true-alike, overloaded-same, fits-not-over, left-same}
-use Rattle.demands.proofs.Calls.{takeable, touched?, call-true, take-done}
+use Rattle.outage.proofs.Checking.{takeable}
+use Rattle.demands.proofs.Calls.{touched?, call-true, take-done}
 
 same-alike : (r s : List ℕ) → r ≡ s → Alike r s
 same-alike r s e = record { front = λ m l. ap (λ (x : List ℕ). nth x m) e; whole = λ n. e }
@@ -83,11 +84,11 @@ module _ {bs bs₁ bs₂ : List ℕ} {flow flow₁ flow₂ : List ℤ} {table ta
   calls-same (overloads c f o k) (unfit c′ m a k′) = absurd (m f)
   calls-same (overloads c f o k) (overloads c′ f′ o′ k′) = unchanged-same (overloaded-same _ r s o o′) k k′
   calls-same (overloads c f o k) (accepts c′ f′ a x) =
-      absurd (fits-not-over _ (on flow₂) r (posed-status _ b _ (posed-book bs (takeable bs _ _ b c .passes .book))) (x .updated .fits) o)
+      absurd (fits-not-over _ (on flow₂) r (posed-status _ b _ (posed-book bs (takeable bs _ _ b c .book))) (x .updated .fits) o)
   calls-same (accepts c f a x) (refuses n a′ k) = absurd (n c)
   calls-same (accepts c f a x) (unfit c′ m a′ k) = absurd (m f)
   calls-same (accepts c f a x) (overloads c′ f′ o k) =
-      absurd (fits-not-over _ (on flow₁) s (posed-status _ b _ (posed-book bs (takeable bs _ _ b c .passes .book))) (x .updated .fits) o)
+      absurd (fits-not-over _ (on flow₁) s (posed-status _ b _ (posed-book bs (takeable bs _ _ b c .book))) (x .updated .fits) o)
   calls-same (accepts c f a x) (accepts c′ f′ a′ y) = taken-same (a ∙ sym a′) a x y
 
   -- From a true table every byte is the same that isn't free, whatever the two shortlists.
