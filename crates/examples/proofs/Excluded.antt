@@ -4,30 +4,37 @@ use mathlib.Core.Bool.{true, false, true≢false}
 use mathlib.Core.List.{List, [], _∷_, List·Memᴰ, List·Memᴰ·head, List·Memᴰ·tail}
 use Prim.Native.Nat.{ℕ, zero, suc, _≤_, _<_}
 use native.Mathlib.Omega.{arith}
-use lib.IntN.{ℤ}
+use lib.IntN.{ℤ, pos, natAbs, _-ℤ_}
 use lib.ListN.{length, getD, take}
 use lib.Seq.{getD-take}
 use Rattle.rows.specs.Row.{nth, every}
 use Rattle.rows.specs.Answer.{numberOf}
-use Rattle.rows.specs.Sum.{over}
+use Rattle.rows.specs.Sum.{over, sum}
+use Rattle.rows.specs.declared.Outcome.the-variants.{Accepted}
 use Rattle.rows.specs.declared.Answer.{Answer}
 use Rattle.grid.proofs.Tests.{_&_}
+use Rattle.quantity.specs.Signed.{posPart}
 use Rattle.layout.specs.Book.{Book}
 use Rattle.layout.specs.Fault.{branchFault}
 use Rattle.layout.specs.Layout.{encode}
-use Rattle.layout.proofs.Trips.{count-encode, book-encode}
-use Rattle.verdict.specs.Case.{on}
-use Rattle.verdict.specs.Record.{recordAt, verdictOf}
+use Rattle.layout.proofs.Accept.{valid-accepted}
+use Rattle.layout.proofs.Trips.{count-encode, valid-encode, book-encode}
+use Rattle.verdict.specs.Case as verdict
+use Rattle.verdict.specs.Case.{on, leaving, arriving, Fits}
+use Rattle.verdict.specs.Record.{recordAt, verdictOf, names}
 use Rattle.record.specs.Bytes.{recordBytes}
 use Rattle.screen.specs.Case.{caseOf}
 use Rattle.screen.specs.Promise.{ScreenEnds}
-use Rattle.outage.specs.Promise.{TakeEnds}
+use Rattle.outage.specs.Promise.{Confined, takeCheck, TakeEnds, refuses, unfit, overloads, accepts}
 use Rattle.demands.specs.Run.{Run}
 use Rattle.outage.proofs.Clearing.{branches-of}
+use Rattle.demands.proofs.Ends.{number-of}
+use Rattle.demands.proofs.Calls.{taking}
+use Rattle.demands.proofs.Excluded.{eleven-first}
 use Rattle.demands.proofs.Record.{out-exactly}
 use Rattle.demands.proofs.Demand3.{run-true, run-posed}
 use Rattle.examples.specs.Row.{out, carries, short, sightBytes, Row, shows, Shows, Takes}
-use Rattle.examples.specs.Table.{triangle, second, markedRows}
+use Rattle.examples.specs.Table.{minus, joins, triangle, second, markedRows}
 use Rattle.examples.proofs.Tests.{wellTest, well-sound}
 use Rattle.examples.proofs.Marked.{marked-examples}
 
@@ -79,3 +86,106 @@ module _ {flow flow′ : List ℤ} {table : List ℕ} {r : Answer} where
       let zero-byte : verdictOf (recordAt table 0) ≡ 0 = first-byte (recordAt table 0) _ (t .records 0 (omega arith)) in
       let off = out-exactly _ (run-posed run) (on flow) 0 (recordAt table 0) (run-true run .each 0 (omega (arith, branches-of (encode T), count-encode T w))) .0 zero-byte in
       true≢false (sym served-T ∙ subst (λ (x : Book). caseOf x .served 0 ≡ false) (book-encode T w) off)
+
+-- ---- Calls on one flow, whatever was done before.
+-- The triangle with branch 0 out, and a lent flow that is 0 everywhere: it doesn't fit, and without branch 1 the book is short 30.
+abbrev Open : Book
+Open = triangle 1000 30 0 1
+
+abbrev still : List ℤ
+still = pos 0 ∷ pos 0 ∷ pos 0 ∷ []
+
+well-Open : wellTest Open ≡ true
+unfolding wellTest _&_ every over branchFault
+well-Open = refl
+
+served-Open : caseOf Open .served 1 ≡ true
+unfolding caseOf
+served-Open = refl
+
+still-unfit : Fits (caseOf Open) (caseOf Open .limit) (on still) → ⊥
+unfolding caseOf sum
+still-unfit f = let e : pos 0 ≡ pos 30 = f .bus 0 (omega arith) in omega (arith, ap posPart e)
+
+module _ {flow′ : List ℤ} {table bs′ table′ : List ℕ} {r : Answer} where
+  -- One that tests 12 before 11.
+  pub twelve-first : 156 ≤ length table → TakeEnds (encode Open) still table 1 bs′ flow′ table′ r → numberOf (r .outcome) ≡ 12 → ⊥
+  twelve-first l e n =
+      let w = well-sound Open well-Open in
+      let checked : takeCheck (encode Open) 3 (length table) 1 ≡ Accepted = taking (encode Open) 3 (length table) 1 (record {
+        book = valid-accepted (encode Open) (valid-encode Open w);
+        flow-room = omega (arith, count-encode Open w);
+        table-room = omega (arith, count-encode Open w);
+        there = omega (arith, count-encode Open w);
+        in-service = subst (λ (x : Book). caseOf x .served 1 ≡ true) (sym (book-encode Open w)) served-Open;
+      }) in
+      let eleven = eleven-first e checked (λ f. still-unfit (subst (λ (x : Book). Fits (caseOf x) (caseOf x .limit) (on still)) (book-encode Open w) f)) in
+      omega (arith, number-of eleven)
+
+-- Three branches side by side carry 10 over the first; its record names the second alone.
+abbrev Abreast : Book
+Abreast = record {
+  factor = 1000;
+  injections = pos 10 ∷ minus 10 ∷ [];
+  branches = joins 0 1 10 1 ∷ joins 0 1 10 1 ∷ joins 0 1 10 1 ∷ [];
+}
+
+abbrev by-first : List ℤ
+by-first = pos 10 ∷ pos 0 ∷ pos 0 ∷ []
+
+abbrev by-second : List ℤ
+by-second = pos 0 ∷ pos 10 ∷ pos 0 ∷ []
+
+abbrev by-third : List ℤ
+by-third = pos 0 ∷ pos 0 ∷ pos 10 ∷ []
+
+three-Abreast : 2 < caseOf Abreast .branches
+unfolding caseOf
+three-Abreast = omega arith
+
+well-Abreast : wellTest Abreast ≡ true
+unfolding wellTest _&_ every over branchFault
+well-Abreast = refl
+
+second-fits : Fits (verdict.out (caseOf Abreast) 0) (caseOf Abreast .limit) (on by-second)
+unfolding caseOf sum
+second-fits = record { still = off; within = kept; bus = even }
+  where
+    off : (k : ℕ) → k < 3 → verdict.out (caseOf Abreast) 0 .served k ≡ false → on by-second k ≡ pos 0
+    off zero u s = refl
+    off (suc zero) u s = absurd (true≢false s)
+    off (suc (suc zero)) u s = refl
+    off (suc (suc (suc k))) u s = absurd (omega arith)
+
+    kept : (k : ℕ) → k < 3 → verdict.out (caseOf Abreast) 0 .served k ≡ true → natAbs (on by-second k) ≤ caseOf Abreast .limit k
+    kept zero u s = omega arith
+    kept (suc zero) u s = omega arith
+    kept (suc (suc zero)) u s = omega arith
+    kept (suc (suc (suc k))) u s = absurd (omega arith)
+
+    even : (i : ℕ) → i < 2 → leaving (verdict.out (caseOf Abreast) 0) (on by-second) i -ℤ arriving (verdict.out (caseOf Abreast) 0) (on by-second) i ≡ caseOf Abreast .injection i
+    even zero u = refl
+    even (suc zero) u = refl
+    even (suc (suc i)) u = absurd (omega arith)
+
+second-confined : (rec : List ℕ) → names rec 1 ≡ true → Confined (caseOf Abreast) (on by-first) rec 0 (on by-second)
+unfolding caseOf
+second-confined rec y zero u n q = absurd (n refl)
+second-confined rec y (suc zero) u n q = absurd (true≢false (sym y ∙ q))
+second-confined rec y (suc (suc zero)) u n q = refl
+second-confined rec y (suc (suc (suc j))) u n q = absurd (omega arith)
+
+third-differs : on by-third 2 ≡ on by-first 2 → ⊥
+third-differs e = omega (arith, ap posPart e)
+
+module _ {table bs′ table′ : List ℕ} {r : Answer} where
+  -- One that drops the flow and screens afresh: 10 then goes over the third branch, which the record doesn't name.
+  pub flow-elsewhere : names (recordAt table 0) 1 ≡ true → names (recordAt table 0) 2 ≡ false → TakeEnds (encode Abreast) by-first table 0 bs′ by-third table′ r → ⊥
+  flow-elsewhere y n (refuses m a k) = third-differs (ap (λ (x : List ℤ). on x 2) (k .flow-kept))
+  flow-elsewhere y n (unfit c m a k) = third-differs (ap (λ (x : List ℤ). on x 2) (k .flow-kept))
+  flow-elsewhere y n (overloads c f o k) = third-differs (ap (λ (x : List ℤ). on x 2) (k .flow-kept))
+  flow-elsewhere y n (accepts c f a o) =
+      let w = well-sound Abreast well-Abreast in
+      let keeps = subst (λ (x : Book). (h : ℕ → ℤ) → Fits (verdict.out (caseOf x) 0) (caseOf x .limit) h → Confined (caseOf x) (on by-first) (recordAt table 0) 0 h
+      → Confined (caseOf x) (on by-first) (recordAt table 0) 0 (on by-third)) (book-encode Abreast w) (o .confined) in
+      third-differs (keeps (on by-second) second-fits (second-confined (recordAt table 0) y) 2 three-Abreast (λ e. omega (arith, e)) n)

@@ -7,10 +7,10 @@ use Rattle.layout.specs.Book.{Book}
 use Rattle.meters.specs.Registers.{registers}
 use Rattle.examples.specs.Row.{out, carries, short, Row, shows, refuses, takes, keeps, meters}
 
-abbrev minus : ℕ → ℤ
+abbrev pub minus : ℕ → ℤ
 minus n = negℤ (pos n)
 
-abbrev joins : ℕ → ℕ → ℕ → ℕ → Branch
+abbrev pub joins : ℕ → ℕ → ℕ → ℕ → Branch
 joins first second kva status = record { first = first; second = second; kva = kva; status = status }
 
 -- The triangle: its power factor, the kVA of 1-2, the status of branches 0 and 1.
