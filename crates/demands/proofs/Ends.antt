@@ -20,7 +20,8 @@ use Rattle.layout.specs.Check.{outside, balances, busFaultAt, branchFaultAt, he
 use Rattle.verdict.specs.Case.{Posed}
 use Rattle.screen.specs.Case.{caseOf}
 use Rattle.screen.specs.Promise.{screenCheck, Overloaded, Screened, ScreenEnds, refuses, overloads, accepts}
-use Rattle.screen.proofs.Opening.{posed, well}
+use Rattle.layout.proofs.WellFormed.{accepted-well}
+use Rattle.screen.proofs.Opening.{posed}
 use Rattle.demands.specs.Answered.{member, readNumbers}
 use Rattle.demands.proofs.Numbers.{Gives, gives-if, gives-at, gives-then, gives-not}
 
@@ -67,7 +68,7 @@ unfolding screenCheck
 passing bs n m p = rw (p .book, le-ltb n (branchesIn bs) (p .flow-room), le-ltb m (52 * branchesIn bs) (p .table-room)) refl
 
 pub posed-book : (bs : List ℕ) → checkOf bs ≡ Accepted → Posed (caseOf (bookOf bs))
-posed-book bs e = posed (bookOf bs) (well bs e)
+posed-book bs e = posed (bookOf bs) (accepted-well bs e)
 
 -- ---- Which answer it was.
 pub is-bare : (o p : Outcome) {r : Answer} → r ≡ bare o → r ≡ bare p → o ≡ p

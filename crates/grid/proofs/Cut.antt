@@ -4,7 +4,7 @@ use mathlib.Core.Bool.{Bool, true, false, true≢false, false≢true}
 use Prim.Native.Nat.{ℕ, zero, suc, _+_, _≤_, _<_}
 use native.Mathlib.Omega.{arith}
 use Rattle.rows.specs.Sum.{Group, all, pick, over}
-use Rattle.rows.proofs.Sum.{over-zero, over-add, over-same, over-ends, over-all, over-term, over-tight, below, equal, above, side}
+use Rattle.rows.proofs.Sum.{over-zero, over-add, over-same, over-ends, pick-part, over-all, over-term, over-tight, below, equal, above, side}
 use Rattle.grid.specs.Net.{Net, Ends, differ, crosses, gains, loads}
 use Rattle.grid.specs.Flow.{Flow, Within, at-end, leaves, arrives, Balanced, Closed}
 use Rattle.grid.specs.Reach.{here, onward, Reached, Spare, along, against, Surplus}
@@ -160,14 +160,10 @@ module _ (N : Net) (f : Flow) (l d : ℕ → ℕ) (w : Settled N f l d) where
           out-ahead = λ k u. full-step _ _ _ _ _ (full k u) .0;
           out-back = λ k u. full-step _ _ _ _ _ (full k u) .1;
         };
-        surplus = λ i u p. on (R i) (l i) (over-tight n R all l l (λ i u. part (R i) (l i)) same i u) p;
+        surplus = λ i u p. on (R i) (l i) (over-tight n R all l l (λ i u. pick-part (R i) (l i)) same i u) p;
         served = λ i u p. none (R i) (d i) (omega (arith, over-term n R d i u)) p;
       }
     where
-      part : (s : Bool) (x : ℕ) → pick s x ≤ x
-      part true x = omega arith
-      part false x = omega arith
-
       on : (s : Bool) (x : ℕ) → pick s x ≡ x → 0 < x → s ≡ true
       on true x h p = refl
       on false x h p = absurd (omega arith)

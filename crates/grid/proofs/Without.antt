@@ -6,7 +6,7 @@ use native.Mathlib.Omega.{arith}
 use borrow.Author.Tests.{eq-eqb, ne-eqb}
 use lib.Dec.{eqb}
 use Rattle.rows.specs.Sum.{Group, pick, over}
-use Rattle.rows.proofs.Sum.{over-same, pick-zero, below, equal, above, side}
+use Rattle.rows.proofs.Sum.{over-same, pick-part, pick-zero, below, equal, above, side}
 use Rattle.grid.specs.Net.{Net, Ends, crosses, ratings, unless, without}
 use Rattle.grid.specs.Excess.{AtMost}
 
@@ -36,8 +36,4 @@ pub ends-without : (N : Net) (b : ℕ) → Ends N → Ends (without N b)
 ends-without N b e = record { first-in = e .first-in; second-in = e .second-in }
 
 pub at-most-without : (N : Net) (b : ℕ) (S : Group) (v : ℕ) → b < N .branches → AtMost N S v → AtMost (without N b) S (v + N .limit b)
-at-most-without N b S v h m = omega (arith, over-unless (N .branches) (crosses N S) (N .limit) b h, part (crosses N S b) (N .limit b))
-  where
-    part : (s : Bool) (x : ℕ) → pick s x ≤ x
-    part true x = omega arith
-    part false x = omega arith
+at-most-without N b S v h m = omega (arith, over-unless (N .branches) (crosses N S) (N .limit) b h, pick-part (crosses N S b) (N .limit b))

@@ -22,7 +22,7 @@ use Rattle.quantity.proofs.Parts.{size-parts}
 use Rattle.bits.specs.Field.{setBit}
 use Rattle.layout.specs.Book.{injection, buses}
 use Rattle.layout.specs.Layout.{busesIn, branchesIn, statusBit, bookOf}
-use Rattle.layout.proofs.WellFormed.{count-of, buses-of}
+use Rattle.layout.proofs.WellFormed.{accepted-well, count-of, buses-of}
 use Rattle.book.specs.Read.{RowsRead}
 use Rattle.book.specs.declared.CaseRows.{CaseRows}
 use Rattle.reroute.specs.Verdicts.{Losable}
@@ -34,7 +34,7 @@ use Rattle.verdict.specs.Record.{recordAt}
 use Rattle.screen.specs.Case.{caseOf}
 use Rattle.screen.specs.State.{Held, State, Planned, Plannable, Fillable, Poised}
 use Rattle.screen.specs.declared.Plan.{Plan}
-use Rattle.screen.proofs.Opening.{well, plannable, held, gain-is, load-is}
+use Rattle.screen.proofs.Opening.{plannable, held, gain-is, load-is}
 use Rattle.screen.proofs.Ending.{Flat}
 use Rattle.screen.proofs.Judging.{losable}
 use Rattle.outage.specs.Fit.{Lendable, Fitted}
@@ -71,17 +71,17 @@ module _ (bs : List ℕ) (flow : List ℤ) (table : List ℕ) (b : ℕ) where
 
     module _ (r : CaseRows) (h : RowsRead (bookOf bs) r) where
       pub plannable-here : Plannable r
-      plannable-here = plannable (bookOf bs) (well bs (may .book)) r h
+      plannable-here = plannable (bookOf bs) (accepted-well bs (may .book)) r h
 
       module _ (q : Plan) (p : Planned r q) where
         held-here : Held C (q .wires) (q .served) (q .live)
-        held-here = held (bookOf bs) (well bs (may .book)) r h q p
+        held-here = held (bookOf bs) (accepted-well bs (may .book)) r h q p
 
         gains : nth (q .gain) ≡ (λ i. posPart (C .injection i))
-        gains = gain-is (bookOf bs) (well bs (may .book)) r h q p
+        gains = gain-is (bookOf bs) (accepted-well bs (may .book)) r h q p
 
         loads : nth (q .load) ≡ (λ i. negPart (C .injection i))
-        loads = load-is (bookOf bs) (well bs (may .book)) r h q p
+        loads = load-is (bookOf bs) (accepted-well bs (may .book)) r h q p
 
         pub count-here : q .wires .branches ≡ branchesIn bs
         count-here = p .wiring .same-branches ∙ h .branches-are ∙ count-of bs
@@ -98,7 +98,7 @@ module _ (bs : List ℕ) (flow : List ℤ) (table : List ℕ) (b : ℕ) where
         small : (i : ℕ) → (posPart (C .injection i) ≤ 1000000) × (negPart (C .injection i) ≤ 1000000)
         unfolding caseOf
         small i = elim (side i (buses (bookOf bs))) [
-          | below u ↦ let s = well bs (may .book) .sizes i u in (omega (arith, s, size-parts (injection (bookOf bs) i)), omega (arith, s, size-parts (injection (bookOf bs) i)))
+          | below u ↦ let s = accepted-well bs (may .book) .sizes i u in (omega (arith, s, size-parts (injection (bookOf bs) i)), omega (arith, s, size-parts (injection (bookOf bs) i)))
           | equal u ↦ none (omega arith)
           | above u ↦ none (omega arith)
         ]

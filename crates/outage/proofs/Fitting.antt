@@ -13,7 +13,7 @@ use lib.ListN.{length, set, replicate, length-set}
 use lib.Seq.{getD-set-same, getD-set-other}
 use Rattle.rows.specs.Row.{nth}
 use Rattle.rows.specs.Sum.{Group, pick, over}
-use Rattle.rows.proofs.Sum.{side, below, equal, above}
+use Rattle.rows.proofs.Sum.{side, below, equal, above, pick-part}
 use Rattle.quantity.specs.Signed.{posPart, negPart}
 use Rattle.search.specs.declared.Wires.{Wires}
 use Rattle.verdict.specs.Case.{on}
@@ -99,10 +99,6 @@ once-le l l₁ i x j e h = rw e (rw (bump l i x h j) (go (eqb i j)))
     go true = omega arith
     go false = omega arith
 
-part : (t : Bool) (x y : ℕ) → x ≤ y → pick t x ≤ y
-part true x y h = h
-part false x y h = omega arith
-
 module _ (W : Wires) (live a gain load : List ℕ) where
   pub record Counting (comes goes : List ℕ) (k : ℕ) : Type 0 where
     pub countable : Countable W live a gain load
@@ -167,7 +163,7 @@ module _ (W : Wires) (live a gain load : List ℕ) where
           );
         };
         low = λ i v. (
-          omega (arith, x .1 i, c .low i v, part (eqb far i) (nth live k) 1000000 (lim .0), part (eqb near i) (nth a k) 2000000 (lim .1)),
-          omega (arith, y .1 i, c .low i v, part (eqb near i) (nth live k) 1000000 (lim .0), part (eqb far i) (nth a k) 2000000 (lim .1)),
+          omega (arith, x .1 i, c .low i v, pick-part (eqb far i) (nth live k), lim .0, pick-part (eqb near i) (nth a k), lim .1),
+          omega (arith, y .1 i, c .low i v, pick-part (eqb near i) (nth live k), lim .0, pick-part (eqb far i) (nth a k), lim .1),
         );
       }

@@ -3,7 +3,7 @@ use mathlib.Core.Path.{_≡_, refl, sym, _∙_}
 use mathlib.Core.Bool.{Bool, true, false, not, _&&_, _||_, true≢false, false≢true}
 use mathlib.Core.List.{List}
 use mathlib.Core.Logic.{_⊎_, inl, inr}
-use Prim.Native.Nat.{ℕ, zero, suc, _≤_, _<_}
+use Prim.Native.Nat.{ℕ, _≤_, _<_}
 use native.Mathlib.Omega.{arith}
 use native.Mathlib.Decide.{ℕ-discrete}
 use borrow.Author.Tests.{eq-eqb, ne-eqb}
@@ -11,7 +11,7 @@ use lib.Dec.{eqb}
 use lib.IntN.{ℤ}
 use lib.ListN.{length, getD}
 use Rattle.rows.specs.Row.{nth, some}
-use Rattle.rows.proofs.Row.{some-at, or-true, both-true}
+use Rattle.rows.proofs.Row.{some-at, some-never, or-true, both-true}
 use Rattle.rows.specs.Bit.{has, bitAt}
 use Rattle.bits.specs.Field.{setBit}
 use Rattle.bits.proofs.Bits.{bit-same, bit-other}
@@ -41,11 +41,6 @@ marked {n} {a} {b} {k} {row} few u c =
     one : (j : ℕ) → has (setBit row k 1) j ≡ true → ((j : ℕ) → (j ≡ k → ⊥) → has (setBit row k 1) j ≡ has row j) → Dec (j ≡ k) → (j ≡ k) ⊎ Differs n a b k j
     one j q there (yes e) = inl e
     one j q there (no m) = inr (c .named j (sym (there j m) ∙ q))
-
-some-never : (p : ℕ → Bool) (n : ℕ) → ((k : ℕ) → p k ≡ false) → some n p ≡ false
-unfolding some
-some-never p zero h = refl
-some-never p (suc n) h = rw (some-never p n h, h n) refl
 
 -- ---- The test is the shortlist.
 module _ (C : Case) (served : List Bool) (touched : List ℕ) (T : ℕ → Type 0) (few : C .branches ≤ 256) (served-is : (k : ℕ) → getD served k false ≡ C .served k)

@@ -126,6 +126,11 @@ module _ (p : ℕ → Bool) where
     | above l ↦ absurd (omega arith)
   ]
 
+  pub some-never : (n : ℕ) → ((k : ℕ) → p k ≡ false) → some n p ≡ false
+  unfolding some
+  some-never zero h = refl
+  some-never (suc n) h = rw (some-never n h, h n) refl
+
   pub no-some : (n : ℕ) → some n p ≡ false → (k : ℕ) → k < n → p k ≡ false
   unfolding some
   no-some zero e k h = absurd (omega arith)

@@ -83,12 +83,12 @@ over-ends n (suc m) S p x h =
       over-one n S (p m) (x m) (h m (omega arith)),
     )
 
+pub pick-part : (s : Bool) (x : ℕ) → pick s x ≤ x
+pick-part true x = omega arith
+pick-part false x = omega arith
+
 pub over-all : (n : ℕ) (S : Group) (f : ℕ → ℕ) → over n S f ≤ over n all f
-over-all n S f = over-le n S all f f (λ i l. part (S i) (f i))
-  where
-    part : (s : Bool) (x : ℕ) → pick s x ≤ x
-    part true x = omega arith
-    part false x = omega arith
+over-all n S f = over-le n S all f f (λ i l. pick-part (S i) (f i))
 
 -- A term is at most the sum.
 pub over-term : (n : ℕ) (S : Group) (f : ℕ → ℕ) (i : ℕ) → i < n → pick (S i) (f i) ≤ over n S f

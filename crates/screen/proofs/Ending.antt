@@ -1,6 +1,6 @@
 -- Each way in which a screen ends meets its promise.
 use mathlib.Core.Path.{_≡_, refl, sym, ap, _∙_, subst}
-use mathlib.Core.Bool.{Bool, true, false, _||_}
+use mathlib.Core.Bool.{Bool, true, _||_}
 use mathlib.Core.List.{List}
 use Prim.Native.Nat.{ℕ, _+_, _*_, _≤_, _<_}
 use native.Mathlib.Omega.{arith}
@@ -10,7 +10,6 @@ use lib.IntN.{ℤ, pos, _-ℤ_}
 use lib.ListN.{length}
 use Rattle.rows.specs.Row.{nth, headed}
 use Rattle.rows.specs.Bit.{has}
-use Rattle.rows.specs.Sum.{pick}
 use Rattle.rows.specs.Answer.{bare, accepted, refused, overloaded, refusal}
 use Rattle.rows.specs.declared.Outcome.{Outcome}
 use Rattle.rows.specs.declared.Outcome.the-variants.{Accepted}
@@ -35,7 +34,7 @@ use Rattle.verdict.proofs.Alike.{SameFlow, within-alike, balanced-alike, gains-
 use Rattle.screen.specs.Case.{caseOf}
 use Rattle.screen.specs.State.{Held, State, Fillable, Tabled}
 use Rattle.screen.specs.Promise.{screenCheck, Overloaded, ScreenEnds, refuses, overloads, accepts}
-use Rattle.screen.proofs.Judging.{group-bytes, clipped}
+use Rattle.screen.proofs.Judging.{group-bytes, clipped, held-limit, held-small}
 
 -- A case whose losses are judged by the limits of its base flow.
 abbrev pub Flat : Case → Type 0
@@ -52,21 +51,11 @@ module _ (C : Case) (flat : Flat C) (W : Wires) (served : List Bool) (live gain 
   load-at : (i : ℕ) → nth load i ≡ negPart (C .injection i)
   load-at i = ap (λ (l : ℕ → ℕ). l i) load-is
 
-  live-at : (k : ℕ) → nth live k ≡ pick (C .served k) (C .loss-limit k)
-  live-at k = ap (λ (l : ℕ → ℕ). l k) (h .live-is)
-
-  part-le : (t : Bool) (x y : ℕ) → x ≤ y → pick t x ≤ y
-  part-le true x y u = u
-  part-le false x y u = omega arith
-
-  live-small : (k : ℕ) → k < W .branches → nth live k ≤ 1000000
-  live-small k u = rw (live-at k) (part-le (C .served k) (C .loss-limit k) 1000000 (h .posed .rated k (rw (← h .branches-are) u)))
-
   -- What the base flow asks for.
   pub basic : Basic W live gain load
   basic = record {
     linked = h .linked;
-    limits = live-small;
+    limits = held-small C W served live h;
     gains-small = λ i u. omega (arith, gain-at i, h .posed .sized i (rw (← h .buses-are) u), size-parts (C .injection i));
     apart = λ i u. omega (arith, gain-at i, load-at i, one-side (C .injection i));
   }
@@ -94,7 +83,7 @@ module _ (C : Case) (flat : Flat C) (W : Wires) (served : List Bool) (live gain 
     fillable room u = record {
       few = rw (h .branches-are) (h .posed .few-branches);
       fits-in = u;
-      small = λ k v. (omega (arith, live-small k v), omega (arith, live-small k v, d .kept k));
+      small = λ k v. (omega (arith, held-small C W served live h k v), omega (arith, held-small C W served live h k v, d .kept k));
     }
 
     -- Carries: the flow that the latent capacities leave fits, and they are its latent capacities.
@@ -112,8 +101,8 @@ module _ (C : Case) (flat : Flat C) (W : Wires) (served : List Bool) (live gain 
         record {
           held = h;
           latents = record {
-            ahead-is = λ k u. omega (arith, parts k u, live-at k);
-            back-is = λ k u. omega (arith, parts k u, live-at k, d .kept k);
+            ahead-is = λ k u. omega (arith, parts k u, held-limit C W served live h k);
+            back-is = λ k u. omega (arith, parts k u, held-limit C W served live h k, d .kept k);
           };
           fits = settled-fits C (C .limit) (on flow)
               (within-alike (base C) (carried (nth live) (r .ahead)) (flowOf (on flow)) same (c .within))

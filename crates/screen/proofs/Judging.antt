@@ -11,7 +11,7 @@ use lib.ListN.{length, replicate, getD-replicate, length-replicate, List·getD-e
 use Rattle.rows.specs.Row.{nth}
 use Rattle.rows.specs.Bit.{has}
 use Rattle.rows.specs.Sum.{Group, pick}
-use Rattle.rows.proofs.Sum.{side, below, equal, above}
+use Rattle.rows.proofs.Sum.{side, below, equal, above, pick-part}
 use Rattle.quantity.specs.Signed.{posPart, negPart}
 use Rattle.quantity.proofs.Parts.{by-parts, minus-parts}
 use Rattle.bits.specs.Field.{Bytes}
@@ -68,6 +68,13 @@ pub held-net : (C : Case) (W : Wires) (served : List Bool) (live : List ℕ) →
     → network W (nth live) (λ i. posPart (C .injection i)) (λ i. negPart (C .injection i)) ≡ netOf C (C .loss-limit)
 held-net C W served live h = rw (h .buses-are, h .branches-are, h .first-is, h .second-is, h .live-is) refl
 
+module _ (C : Case) (W : Wires) (served : List Bool) (live : List ℕ) (h : Held C W served live) where
+  pub held-limit : (k : ℕ) → nth live k ≡ pick (C .served k) (C .loss-limit k)
+  held-limit k = ap (λ (l : ℕ → ℕ). l k) (h .live-is)
+
+  pub held-small : (k : ℕ) → k < W .branches → nth live k ≤ 1000000
+  held-small k u = omega (arith, held-limit k, pick-part (C .served k) (C .loss-limit k), h .posed .rated k (rw (← h .branches-are) u))
+
 module _ (C : Case) (f : ℕ → ℤ) (W : Wires) (served : List Bool) (live a b : List ℕ) (s : State C f W served live a b) where
   p : Posed C
   p = s .held .posed
@@ -76,14 +83,10 @@ module _ (C : Case) (f : ℕ → ℤ) (W : Wires) (served : List Bool) (live a b
   fitting = none-above C (C .limit) f (s .held .posed) (s .fits)
 
   pub limit-at : (k : ℕ) → nth live k ≡ pick (C .served k) (C .loss-limit k)
-  limit-at k = ap (λ (l : ℕ → ℕ). l k) (s .held .live-is)
-
-  part-le : (t : Bool) (x y : ℕ) → x ≤ y → pick t x ≤ y
-  part-le true x y h = h
-  part-le false x y h = omega arith
+  limit-at = held-limit C W served live (s .held)
 
   pub limits : (k : ℕ) → k < W .branches → nth live k ≤ 1000000
-  limits k u = rw (limit-at k) (part-le (C .served k) (C .loss-limit k) 1000000 (s .held .posed .rated k (rw (← s .held .branches-are) u)))
+  limits = held-small C W served live (s .held)
 
   pub even : Even (W .branches) a b (nth live)
   even = record {

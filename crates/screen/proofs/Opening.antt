@@ -9,16 +9,11 @@ use lib.Dec.{eqb}
 use lib.ListN.{getD, List·getD-eq-default}
 use Rattle.rows.specs.Row.{nth}
 use Rattle.rows.specs.Sum.{pick}
-use Rattle.rows.specs.declared.Outcome.the-variants.{Accepted}
 use Rattle.rows.proofs.Sum.{side, below, equal, above}
 use Rattle.quantity.specs.Rating.{limitOf}
 use Rattle.quantity.specs.Signed.{posPart, negPart}
 use Rattle.quantity.proofs.Parts.{size-parts}
 use Rattle.layout.specs.Book.{Book, count, injection, branch, noBranch, WellFormed}
-use Rattle.layout.specs.Layout.{bookOf}
-use Rattle.layout.specs.Check.{checkOf}
-use Rattle.layout.proofs.Accept.{accepted-valid}
-use Rattle.layout.proofs.WellFormed.{valid-well}
 use Rattle.book.specs.Read.{RowsRead}
 use Rattle.book.specs.declared.CaseRows.{CaseRows}
 use Rattle.verdict.specs.Case.{Posed}
@@ -44,9 +39,6 @@ posed b w = record {
   rated = λ k u. limit-small (branch b k .kva) (b .factor) (w .good k u .rating) (w .small-factor);
   rising = λ k u. omega arith;
 }
-
-pub well : (bs : List ℕ) → checkOf bs ≡ Accepted → WellFormed (bookOf bs)
-well bs e = valid-well bs (accepted-valid bs e)
 
 module _ (b : Book) (w : WellFormed b) (r : CaseRows) (h : RowsRead b r) where
   pub plannable : Plannable r

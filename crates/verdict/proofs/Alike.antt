@@ -5,7 +5,7 @@ use Prim.Native.Nat.{ℕ, _+_, _≤_, _<_}
 use native.Mathlib.Omega.{arith}
 use lib.Dec.{eqb}
 use Rattle.rows.specs.Sum.{Group, all, pick, over}
-use Rattle.rows.proofs.Sum.{over-add, over-same, over-le, pick-le}
+use Rattle.rows.proofs.Sum.{over-add, over-same, over-le, pick-le, pick-part}
 use Rattle.quantity.specs.Signed.{posPart, negPart}
 use Rattle.quantity.proofs.Parts.{sum-parts}
 use Rattle.grid.specs.Net.{Net, crosses, gains, loads, unless, without}
@@ -59,11 +59,6 @@ net-out C b limit =
 -- What enters is what leaves.
 pub gains-loads : (C : Case) (limit : ℕ → ℕ) → Posed C → gains (netOf C limit) all ≡ loads (netOf C limit) all
 gains-loads C limit p = omega (arith, sum-parts (C .buses) all (C .injection), ap posPart (p .balanced), ap negPart (p .balanced))
-
--- ---- Bounds.
-pick-part : (s : Bool) (x : ℕ) → pick s x ≤ x
-pick-part true x = omega arith
-pick-part false x = omega arith
 
 -- A shortage is at most what the lost branch could carry.
 pub shortage-limit : (C : Case) (b v : ℕ) (S : Group) → Posed C → NoExcess C → b < C .branches → Short C b v S → v ≤ C .loss-limit b

@@ -9,14 +9,14 @@ use Rattle.rows.proofs.Refusals.{not-accepted}
 use Rattle.layout.specs.Book.{WellFormed}
 use Rattle.layout.specs.Layout.{branchesIn, bookOf}
 use Rattle.layout.specs.Check.{checkOf}
-use Rattle.layout.proofs.WellFormed.{count-of}
+use Rattle.layout.proofs.WellFormed.{accepted-well, count-of}
 use Rattle.screen.specs.Case.{caseOf}
 use Rattle.rows.specs.Row.{nth}
 use Rattle.quantity.specs.Signed.{posPart, negPart}
 use Rattle.verdict.specs.Case.{on}
 use Rattle.screen.specs.State.{Held, State}
 use Rattle.screen.specs.declared.Plan.{Plan}
-use Rattle.screen.proofs.Opening.{well, plannable, held, gain-is, load-is}
+use Rattle.screen.proofs.Opening.{plannable, held, gain-is, load-is}
 use Rattle.screen.proofs.Ending.{Flat, basic, overload, fillable, state-left, by-book, by-flow-room, by-table-room, by-overload, by-table}
 use Rattle.screen.proofs.screen.Statement.{statement}
 use Rattle.screen.proofs.screen.Tie as tie
@@ -34,7 +34,7 @@ ok : (c : tie.After-enum-told) → checkOf (c .before .before .before .before .b
 ok c = sym (c .before .before .check-book .ensures) ∙ c .enum-told .given .1
 
 well-read : (c : tie.After-prepare) → WellFormed (bookOf (bytes c))
-well-read c = well (bytes c) (ok (c .before .before))
+well-read c = accepted-well (bytes c) (ok (c .before .before))
 
 count : (c : tie.After-prepare) → made c .wires .branches ≡ branchesIn (bytes c)
 count c = c .prepare .ensures .wiring .same-branches ∙ c .before .rows-of .ensures .branches-are ∙ count-of (bytes c)
@@ -89,7 +89,7 @@ rows-of-requires : tie.Need-rows-of-requires
 rows-of-requires c κs = ok c
 
 prepare-requires : tie.Need-prepare-requires
-prepare-requires c κs = plannable (bookOf _) (well _ (ok (c .before))) _ (c .rows-of .ensures)
+prepare-requires c κs = plannable (bookOf _) (accepted-well _ (ok (c .before))) _ (c .rows-of .ensures)
 
 refuse-requires : tie.Need-refuse-requires
 refuse-requires c κs = search needs
