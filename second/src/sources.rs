@@ -40,6 +40,15 @@ pub fn five_bus_of_cuts(injections: &[i64; 5], rating_3_5: u32, rating_1_3: u32)
     from_mw(injections, &ratings)
 }
 
+/// Its two cases, with one choice of the single ratings.
+pub fn five_bus_of_cuts_short() -> Book {
+    five_bus_of_cuts(&[363, -330, -264, 231, 0], 100, 250)
+}
+
+pub fn five_bus_of_cuts_carrying() -> Book {
+    five_bus_of_cuts(&[297, -270, -216, 189, 0], 100, 250)
+}
+
 /// Branches of the 10-bus system in the order of Appendix B, each of 300 MVA.
 pub const TEN_1_4: usize = 1;
 const TEN: [(usize, usize); 11] = [(1, 3), (1, 4), (2, 3), (2, 9), (3, 9), (4, 6), (5, 6), (5, 10), (6, 7), (7, 8), (8, 9)];

@@ -176,6 +176,10 @@ fn systems(stream: &mut Stream) {
     stream.add(WHOLE);
     stream.add(out(sources::FIVE_3_4));
     stream.add(out(sources::FIVE_3_5));
+    for book in [sources::five_bus_moved(), sources::five_bus_of_cuts_short(), sources::five_bus_of_cuts_carrying()] {
+        stream.book(&book);
+        stream.add(WHOLE);
+    }
     stream.book(&sources::seven_bus());
     for (branch, kw) in sources::seven_bus_flow().into_iter().enumerate() {
         stream.add(Command::Flow(branch, kw as i32));
