@@ -1,0 +1,44 @@
+// The two exported functions: a slice is a pointer and a length.
+#include "proved.hpp"
+
+#include <algorithm>
+
+extern "C" {
+uint8_t callable_screen(const uint8_t *book, size_t bytes, int32_t *flow, size_t flows, uint8_t *table, size_t length,
+                        uint32_t *shortage, uint8_t *group);
+uint8_t callable_take_out(uint8_t *book, size_t bytes, int32_t *flow, size_t flows, uint8_t *table, size_t length,
+                          size_t branch, uint32_t *shortage, uint8_t *group);
+}
+
+Answer proved_screen(Lent &lent) {
+    Answer answer;
+    answer.number =
+        callable_screen(lent.book.data(), lent.book.size(), lent.flow.data(), lent.flow.size(), lent.table.data(),
+                        lent.table.size(), &answer.shortage, answer.group.data());
+    return answer;
+}
+
+Answer proved_take_out(Lent &lent, int branch) {
+    Answer answer;
+    answer.number =
+        callable_take_out(lent.book.data(), lent.book.size(), lent.flow.data(), lent.flow.size(), lent.table.data(),
+                          lent.table.size(), branch, &answer.shortage, answer.group.data());
+    return answer;
+}
+
+Screened shown(const Answer &answer, const Lent &lent) {
+    Screened all;
+    all.base.kind = answer.number == 12 ? Kind::is_short : Kind::carries;
+    all.base.shortage = answer.shortage;
+    all.base.group = answer.group;
+    all.losses.resize(lent.branches());
+    if (answer.number != 0) return all;
+    for (int k = 0; k < lent.branches(); ++k) {
+        const uint8_t *record = lent.table.data() + 52 * k;
+        Verdict &verdict = all.losses[k];
+        verdict.kind = static_cast<Kind>(record[0]);
+        verdict.shortage = record[1] << 16 | record[2] << 8 | record[3];
+        std::copy(record + 4, record + 20, verdict.group.begin());
+    }
+    return all;
+}

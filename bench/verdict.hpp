@@ -1,0 +1,25 @@
+// What a screen answers: the base of a book, and the loss of each of its branches.
+#pragma once
+#include <array>
+#include <cstdint>
+#include <vector>
+
+// Bus k is bit 7 - k mod 8 of byte k / 8.
+using Group = std::array<uint8_t, 16>;
+
+enum class Kind : uint8_t { out, carries, is_short };
+
+struct Verdict {
+    Kind kind = Kind::out;
+    int shortage = 0;
+    Group group{};
+};
+
+struct Screened {
+    Verdict base;
+    std::vector<Verdict> losses;
+};
+
+inline bool operator==(const Verdict &a, const Verdict &b) {
+    return a.kind == b.kind && a.shortage == b.shortage && a.group == b.group;
+}

@@ -1,0 +1,63 @@
+// The screen and the outage call under C's calling convention, for programs in other languages to link.
+// A slice is a pointer and a length; the answer comes back as its number, its shortage and its group.
+ghost use mathlib.Core.Path.{_≡_};
+ghost use Rattle.rows.specs.Answer.{numberOf, shortageOf};
+ghost use Rattle.callable.specs.Promise.{ScreenSays, TakeSays};
+use rows::Outcome;
+
+fn number_of(outcome: Outcome) -> u8
+    ensures { λ r. ⌜ r ≡ numberOf outcome ⌝ }
+{
+    match outcome {
+        Outcome::Accepted => 0,
+        Outcome::Refused(why) => why.number,
+        Outcome::Overloaded(_) => 12,
+    }
+}
+
+fn shortage_of(outcome: Outcome) -> u32
+    ensures { λ r. ⌜ r ≡ shortageOf outcome ⌝ }
+{
+    match outcome {
+        Outcome::Accepted => 0,
+        Outcome::Refused(_) => 0,
+        Outcome::Overloaded(kw) => kw,
+    }
+}
+
+#[no_mangle]
+pub extern "C" fn callable_screen(
+    book: &[u8],
+    flow: &mut [i32],
+    table: &mut [u8],
+    shortage: &mut u32,
+    group: &mut [u8; 16],
+) -> u8
+    ensures { λ r. ⌜ ScreenSays (now (book .entry)) (now (flow .entry)) (now (table .entry)) (now (flow .exit)) (now (table .exit)) r (now (shortage .exit)) (now (group .exit)) ⌝ }
+{
+    let answer = screen::screen(book, flow, table);
+    let outcome = answer.outcome;
+    let reached = answer.group;
+    *shortage = shortage_of(outcome);
+    *group = reached;
+    number_of(outcome)
+}
+
+#[no_mangle]
+pub extern "C" fn callable_take_out(
+    book: &mut [u8],
+    flow: &mut [i32],
+    table: &mut [u8],
+    branch: usize,
+    shortage: &mut u32,
+    group: &mut [u8; 16],
+) -> u8
+    ensures { λ r. ⌜ TakeSays (now (book .entry)) (now (flow .entry)) (now (table .entry)) branch (now (book .exit)) (now (flow .exit)) (now (table .exit)) r (now (shortage .exit)) (now (group .exit)) ⌝ }
+{
+    let answer = outage::take_out(book, flow, table, branch);
+    let outcome = answer.outcome;
+    let reached = answer.group;
+    *shortage = shortage_of(outcome);
+    *group = reached;
+    number_of(outcome)
+}
