@@ -1,28 +1,31 @@
 // The graph of Boost's engine, and one flow over it.
 #include "boost_engine.hpp"
 
-BoostEngine::BoostEngine(const Book &book)
-    : graph_(book.buses() + 2), source_(book.buses()), sink_(book.buses() + 1), distance_(book.buses() + 2),
-      before_(book.buses() + 2), colour_(book.buses() + 2) {
-    for (int bus = 0; bus < book.buses(); ++bus) {
-        supply_.push_back(join(source_, bus));
-        demand_.push_back(join(bus, sink_));
-    }
-    for (const Branch &b : book.branches) {
-        ahead_.push_back(join(b.first, b.second));
-        back_.push_back(ahead_.back() + 1);
-    }
-    capacity_.assign(edges_.size(), 0);
-    residual_.assign(edges_.size(), 0);
-}
+#include "arcs.hpp"
 
-int BoostEngine::join(int from, int to) {
-    int number = static_cast<int>(edges_.size());
-    Edge there = add_edge(from, to, number, graph_).first;
-    Edge back = add_edge(to, from, number + 1, graph_).first;
-    edges_.insert(edges_.end(), {there, back});
-    reverse_.insert(reverse_.end(), {back, there});
-    return number;
+BoostEngine::BoostEngine(const Book &book)
+    : source_(book.buses()), sink_(book.buses() + 1), distance_(book.buses() + 2), before_(book.buses() + 2),
+      colour_(book.buses() + 2) {
+    // Every arc is followed by its reverse, which Boost asks for; a branch is a reverse of its own other way.
+    std::vector<Arc> arcs;
+    auto join = [&](int from, int to) { arcs.insert(arcs.end(), {{from, to}, {to, from}}); };
+    for (int bus = 0; bus < book.buses(); ++bus) join(source_, bus);
+    for (int bus = 0; bus < book.buses(); ++bus) join(bus, sink_);
+    for (const Branch &b : book.branches) join(b.first, b.second);
+    Ordered ordered = by_start(arcs);
+    graph_ = Graph(boost::edges_are_sorted, ordered.arcs.begin(), ordered.arcs.end(), book.buses() + 2);
+    std::vector<Edge> edges(boost::edges(graph_).first, boost::edges(graph_).second);
+    reverse_.resize(arcs.size());
+    for (size_t i = 0; i < arcs.size(); ++i) reverse_[ordered.place[i]] = edges[ordered.place[i ^ 1]];
+    auto next = ordered.place.begin();
+    for (int bus = 0; bus < book.buses(); ++bus, next += 2) supply_.push_back(*next);
+    for (int bus = 0; bus < book.buses(); ++bus, next += 2) demand_.push_back(*next);
+    for (int k = 0; k < book.count(); ++k, next += 2) {
+        ahead_.push_back(next[0]);
+        back_.push_back(next[1]);
+    }
+    capacity_.assign(arcs.size(), 0);
+    residual_.assign(arcs.size(), 0);
 }
 
 int BoostEngine::solve() {
@@ -35,6 +38,14 @@ int BoostEngine::solve() {
         boost::make_iterator_property_map(before_.begin(), buses),
         boost::make_iterator_property_map(colour_.begin(), buses),
         boost::make_iterator_property_map(distance_.begin(), buses), buses, source_, sink_);
+}
+
+Group BoostEngine::group() const {
+    Group group{};
+    for (int bus = 0; bus < source_; ++bus) {
+        if (colour_[bus] == boost::black_color) add_bus(group, bus);
+    }
+    return group;
 }
 
 std::vector<int> BoostEngine::flows() const {

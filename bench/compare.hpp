@@ -1,21 +1,35 @@
 // The proved screen beside the peers on one book: all must agree, and each is timed.
 #pragma once
 #include "book.hpp"
+#include "proved.hpp"
+#include "timing.hpp"
 
-#include <vector>
-
-struct Contender {
+struct Peer {
     const char *name;
-    double time;
+    Screened (*screen)(const Book &);
 };
 
-struct Comparison {
-    double proved;
-    int shorts;
-    std::vector<Contender> peers;
+// The program ends where a peer answers otherwise than the proved screen.
+class Comparison {
+  public:
+    explicit Comparison(const Book &book);
+    // Runs everybody once.
+    void round();
 
-    const Contender &fastest() const;
+    const Book &book() const { return book_; }
+    int shorts() const;
+    double proved() const { return proved_.time(); }
+    static const std::vector<Peer> &peers();
+    // Of the peer with that number, over the proved screen's.
+    double ratio(size_t peer) const { return peers_[peer].time() / proved_.time(); }
+    size_t fastest() const;
+
+  private:
+    void check_same(const Peer &peer, const Screened &theirs) const;
+
+    Book book_;
+    Lent lent_;
+    Screened ours_;
+    Least proved_;
+    std::vector<Least> peers_;
 };
-
-// Ends the program where a peer answers otherwise than the proved screen.
-Comparison compare(const Book &book, int rounds);

@@ -1,31 +1,40 @@
-// LEMON's Preflow as an Engine. The flow runs backward, from the demands to the supplies: the cut that its first phase
-// finds is then the smallest group, and the second phase is needed for the base flow alone.
+// LEMON's Preflow as an Engine. The flow runs backward, from the demands to the supplies: the smallest group is then
+// known after the first phase, and the second is needed for the base flow alone.
 #pragma once
 #include "book.hpp"
+#include "verdict.hpp"
 
 #include <lemon/preflow.h>
-#include <lemon/smart_graph.h>
+#include <lemon/static_graph.h>
+
+#include <memory>
 
 class LemonEngine {
   public:
     explicit LemonEngine(const Book &book);
-    void set_supply(int bus, int kw) { capacity_[supply_[bus]] = kw; }
-    void set_demand(int bus, int kw) { capacity_[demand_[bus]] = kw; }
+    void set_supply(int bus, int kw) { set(supply_[bus], kw); }
+    void set_demand(int bus, int kw) { set(demand_[bus], kw); }
     void set_branch(int k, int ahead, int back) {
-        capacity_[ahead_[k]] = ahead;
-        capacity_[back_[k]] = back;
+        set(ahead_[k], ahead);
+        set(back_[k], back);
     }
     int solve() {
-        preflow_.runMinCut();
-        return preflow_.flowValue();
+        preflow_->runMinCut();
+        return preflow_->flowValue();
     }
-    bool reached(int bus) const { return !preflow_.minCut(graph_.nodeFromId(bus)); }
+    // The buses that can still reach the supplies. Preflow's own cut is a smallest one in kW, but where several are,
+    // not always the one with the smallest group.
+    Group group() const;
     std::vector<int> flows();
 
   private:
-    using Graph = lemon::SmartDigraph;
+    using Graph = lemon::StaticDigraph;
+    void set(int arc, int kw) { (*capacity_)[graph_.arc(arc)] = kw; }
+
+    int buses_;
     Graph graph_;
-    Graph::ArcMap<int> capacity_;
-    std::vector<Graph::Arc> supply_, demand_, ahead_, back_;
-    lemon::Preflow<Graph> preflow_;
+    std::vector<int> supply_, demand_, ahead_, back_;
+    // Made once the graph is: LEMON's maps take its size as it stands.
+    std::unique_ptr<Graph::ArcMap<int>> capacity_;
+    std::unique_ptr<lemon::Preflow<Graph>> preflow_;
 };

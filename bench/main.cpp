@@ -1,10 +1,10 @@
 // Three measurements in one run, printed as tables: whole screens beside the peers, outage calls beside fresh
-// screens, and growth with the number of buses.
+// screens, and growth with the number of buses. Everything is run once in each round, so that a busy machine slows
+// all alike, and the least time of all rounds counts.
 #include "compare.hpp"
 #include "make.hpp"
 #include "outages.hpp"
 
-#include <algorithm>
 #include <cstdio>
 #include <cstdlib>
 
@@ -16,69 +16,78 @@ std::vector<Book> largest() {
             ring(128, 2, Ratings::tight), tree(128)};
 }
 
-void whole_screens(int rounds) {
-    std::printf("## Whole screens\n\n");
-    std::printf("Time of each peer over the proved screen's; above 1 the proved screen is faster.\n\n");
-    std::printf("| Book | Buses | Branches | Short | Proved, microseconds | LEMON afresh | LEMON from base | Boost afresh | "
-                "Boost from base | Fastest peer |\n|---|---|---|---|---|---|---|---|---|---|\n");
-    for (const Book &book : largest()) {
-        Comparison c = compare(book, rounds);
-        std::printf("| %s | %d | %d | %d | %.0f |", book.name.c_str(), book.buses(), book.count(), c.shorts, c.proved);
-        for (const Contender &peer : c.peers) std::printf(" %.2f |", peer.time / c.proved);
-        std::printf(" %.2f |\n", c.fastest().time / c.proved);
-        std::fflush(stdout);
+std::vector<Book> growing(Ratings ratings) {
+    return {mesh(4, 4, ratings), mesh(4, 8, ratings), mesh(8, 8, ratings), mesh(8, 16, ratings)};
+}
+
+void print_screens(const std::vector<Comparison> &all) {
+    std::printf("## Whole screens\n\nEach peer's time over the proved screen's: above 1 the proved screen is faster.\n\n");
+    std::printf("| Book | Buses | Branches | Short | Proved, microseconds |");
+    for (const Peer &peer : Comparison::peers()) std::printf(" %s |", peer.name);
+    std::printf(" Fastest peer |\n|---|---|---|---|---|---|---|---|---|---|\n");
+    for (const Comparison &c : all) {
+        const Book &book = c.book();
+        std::printf("| %s | %d | %d | %d | %.0f |", book.name.c_str(), book.buses(), book.count(), c.shorts(), c.proved());
+        for (size_t i = 0; i < Comparison::peers().size(); ++i) std::printf(" %.2f |", c.ratio(i));
+        std::printf(" %.2f |\n", c.ratio(c.fastest()));
     }
 }
 
-void outage_calls(int rounds) {
-    std::printf("\n## Outage calls\n\n");
-    std::printf("Each branch that can be taken out is, from the same screen. Time: the call's over a fresh screen's of the "
-                "book it leaves. Share: the shortlist among all records.\n\n");
-    std::printf("| Book | Calls | Mean share | Mean time | Worst time less share | its share | its time |\n"
+void print_outages(const std::vector<Outages> &books) {
+    std::printf("\n## Outage calls\n\nEach branch that can be taken out is, from the same screen. Time: the call's over a "
+                "fresh screen's of the book that it leaves. Share: of the shortlist among all records.\n\n");
+    std::printf("| Book | Calls | Mean share | Mean time | Worst time less share | Its share | Its time |\n"
                 "|---|---|---|---|---|---|---|\n");
-    for (const Book &book : largest()) {
-        std::vector<OutageCost> all = outages(book, rounds);
-        if (all.empty()) {
-            std::printf("| %s | 0 | | | | | |\n", book.name.c_str());
-            continue;
+    for (const Outages &book : books) {
+        if (book.all().empty()) continue;
+        double count = book.all().size(), share = 0, time = 0;
+        const Outage *worst = &book.all().front();
+        for (const Outage &one : book.all()) {
+            share += one.share / count;
+            time += one.time() / count;
+            if (one.above() > worst->above()) worst = &one;
         }
-        double share = 0, time = 0;
-        OutageCost worst = all.front();
-        for (const OutageCost &one : all) {
-            share += one.share / all.size();
-            time += one.time / all.size();
-            if (one.above() > worst.above()) worst = one;
-        }
-        std::printf("| %s | %zu | %.3f | %.3f | %+.3f | %.3f | %.3f |\n", book.name.c_str(), all.size(), share, time,
-                    worst.above(), worst.share, worst.time);
-        std::fflush(stdout);
+        std::printf("| %s | %.0f | %.3f | %.3f | %+.3f | %.3f | %.3f |\n", book.book().name.c_str(), count, share, time,
+                    worst->above(), worst->share, worst->time());
     }
 }
 
-void growth(Ratings ratings, int rounds) {
-    const int shapes[][2] = {{4, 4}, {4, 8}, {8, 8}, {8, 16}};
-    std::printf("\n## Growth, %s\n\n", ratings == Ratings::tight ? "tight" : "loose");
-    std::printf("| Buses | Branches | Proved, microseconds | over the row before | Fastest peer over proved | Fastest peer |\n"
+void print_growth(const char *title, const std::vector<Comparison> &all) {
+    std::printf("\n## Growth of the %s\n\n", title);
+    std::printf("| Buses | Branches | Proved, microseconds | Over the row before | Fastest peer over proved | Fastest peer |\n"
                 "|---|---|---|---|---|---|\n");
     double before = 0;
-    for (auto [rows, columns] : shapes) {
-        Book book = mesh(rows, columns, ratings);
-        Comparison c = compare(book, rounds);
-        std::printf("| %d | %d | %.1f |", book.buses(), book.count(), c.proved);
-        if (before > 0) std::printf(" %.2f |", c.proved / before);
-        else std::printf(" |");
-        std::printf(" %.2f | %s |\n", c.fastest().time / c.proved, c.fastest().name);
-        std::fflush(stdout);
-        before = c.proved;
+    for (const Comparison &c : all) {
+        std::printf("| %d | %d | %.1f |", c.book().buses(), c.book().count(), c.proved());
+        before > 0 ? std::printf(" %.2f |", c.proved() / before) : std::printf(" |");
+        std::printf(" %.2f | %s |\n", c.ratio(c.fastest()), Comparison::peers()[c.fastest()].name);
+        before = c.proved();
     }
+}
+
+template <class Each> std::vector<Each> each(const std::vector<Book> &books) { return {books.begin(), books.end()}; }
+
+template <class Each> void round(std::vector<Each> &all) {
+    for (Each &one : all) one.round();
 }
 
 } // namespace
 
 int main(int count, char **words) {
-    int rounds = count > 1 ? std::atoi(words[1]) : 30;
-    whole_screens(rounds);
-    outage_calls(std::max(rounds / 5, 3));
-    growth(Ratings::loose, rounds);
-    growth(Ratings::tight, rounds);
+    int rounds = count > 1 ? std::atoi(words[1]) : 40;
+    auto screens = each<Comparison>(largest());
+    auto loose = each<Comparison>(growing(Ratings::loose));
+    auto tight = each<Comparison>(growing(Ratings::tight));
+    auto calls = each<Outages>(largest());
+    for (int i = 0; i < rounds; ++i) {
+        round(screens);
+        round(loose);
+        round(tight);
+        // Many calls a book, so that few rounds of them take as long.
+        if (i % 4 == 0) round(calls);
+    }
+    print_screens(screens);
+    print_outages(calls);
+    print_growth("loose mesh", loose);
+    print_growth("tight mesh", tight);
 }

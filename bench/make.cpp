@@ -20,7 +20,7 @@ class Maker {
     int pick(int low, int high) { return low + static_cast<int>(random_() % (high - low + 1)); }
 
     void join(int first, int second, int flow) {
-        int slack = ratings_ == Ratings::tight ? pick(0, 1500) : 20000;
+        int slack = ratings_ == Ratings::tight ? pick(0, 100) : 20000;
         int kw = std::abs(flow) + slack;
         int kva = (kw * 1000 + power_factor - 1) / power_factor;
         book_.injections[first] += flow;

@@ -1,63 +1,44 @@
-// Each call starts from the same screen of the whole book.
+// The shortlist of each call by its definition, and what the call took.
 #include "outages.hpp"
-
-#include "proved.hpp"
-#include "timing.hpp"
 
 #include <cstdio>
 #include <cstdlib>
 
-namespace {
-
-bool named(const Lent &before, int record, const std::vector<int> &touched) {
-    for (int j : touched) {
-        if (before.names(record, j)) return true;
-    }
-    return false;
-}
-
-// Out of service, byte 0 not 1, touched, or a reroute that names a touched branch.
-double shortlist_share(const Book &book, const Lent &before, const Lent &after, int branch) {
-    std::vector<int> touched;
-    for (int k = 0; k < book.count(); ++k) {
-        if (k == branch || before.flow[k] != after.flow[k]) touched.push_back(k);
-    }
-    int listed = 0;
-    for (int k = 0; k < book.count(); ++k) {
-        bool moved = k == branch || before.flow[k] != after.flow[k];
-        listed += !book.branches[k].served || before.table[52 * k] != 1 || moved || named(before, k, touched);
-    }
-    return static_cast<double>(listed) / book.count();
-}
-
-void check_same(const Book &book, int branch, const Screened &called, const Screened &fresh) {
-    for (int k = 0; k < book.count(); ++k) {
-        if (called.losses[k] == fresh.losses[k]) continue;
-        std::fprintf(stderr, "%s: after branch %d is out, record %d differs from a fresh screen's\n",
-                     book.name.c_str(), branch, k);
-        std::exit(1);
-    }
-}
-
-} // namespace
-
-std::vector<OutageCost> outages(const Book &book, int rounds) {
-    Lent before(packed(book), book.count());
-    proved_screen(before);
-    std::vector<OutageCost> all;
+Outages::Outages(const Book &book) : book_(book), before_(packed(book), book.count()) {
+    proved_screen(before_);
     for (int branch = 0; branch < book.count(); ++branch) {
-        Lent after = before;
+        Lent after = before_;
         Answer answer = proved_take_out(after, branch);
         if (answer.number != 0) continue;
         Lent fresh(after.book, book.count());
-        check_same(book, branch, shown(answer, after), shown(proved_screen(fresh), fresh));
-        Least call, screen;
-        for (int round = 0; round < rounds; ++round) {
-            Lent again = before;
-            call.add(microseconds([&] { proved_take_out(again, branch); }));
-            screen.add(microseconds([&] { proved_screen(fresh); }));
+        Screened called = shown(answer, after);
+        Screened screened = shown(proved_screen(fresh), fresh);
+        for (int k = 0; k < book.count(); ++k) {
+            if (called.losses[k] == screened.losses[k]) continue;
+            std::fprintf(stderr, "%s: after branch %d is out, record %d differs from a fresh screen's\n",
+                         book.name.c_str(), branch, k);
+            std::exit(1);
         }
-        all.push_back({branch, shortlist_share(book, before, after, branch), call.time() / screen.time()});
+        all_.push_back({branch, share(after, branch), fresh, {}, {}});
     }
-    return all;
+}
+
+void Outages::round() {
+    for (Outage &one : all_) {
+        Lent again = before_;
+        one.call.add(microseconds([&] { proved_take_out(again, one.branch); }));
+        one.screen.add(microseconds([&] { proved_screen(one.fresh); }));
+    }
+}
+
+// Listed: out of service, byte 0 not 1, touched, or a reroute that names a touched branch.
+double Outages::share(const Lent &after, int branch) const {
+    auto touched = [&](int k) { return k == branch || before_.flow[k] != after.flow[k]; };
+    int listed = 0;
+    for (int k = 0; k < book_.count(); ++k) {
+        bool named = false;
+        for (int j = 0; j < book_.count(); ++j) named = named || (touched(j) && before_.names(k, j));
+        listed += !book_.branches[k].served || before_.table[52 * k] != 1 || touched(k) || named;
+    }
+    return static_cast<double>(listed) / book_.count();
 }

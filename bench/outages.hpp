@@ -1,15 +1,36 @@
-// Outage calls beside fresh screens of the book that they leave.
+// Outage calls beside fresh screens of the book that they leave, for one book.
 #pragma once
 #include "book.hpp"
+#include "proved.hpp"
+#include "timing.hpp"
 
-// The share is that of the shortlist among all records; the time is the call's over the fresh screen's.
-struct OutageCost {
+// One branch that can be taken out. The share is that of the shortlist among all records.
+struct Outage {
     int branch;
     double share;
-    double time;
+    Lent fresh;
+    Least call;
+    Least screen;
 
-    double above() const { return time - share; }
+    // The call's time over the fresh screen's.
+    double time() const { return call.time() / screen.time(); }
+    double above() const { return time() - share; }
 };
 
-// One for each branch that can be taken out. Ends the program where call and fresh screen differ.
-std::vector<OutageCost> outages(const Book &book, int rounds);
+// Every call starts from the same screen of the whole book. The program ends where a call and a fresh screen differ.
+class Outages {
+  public:
+    explicit Outages(const Book &book);
+    // Takes every branch out once, each from the whole book.
+    void round();
+
+    const Book &book() const { return book_; }
+    const std::vector<Outage> &all() const { return all_; }
+
+  private:
+    double share(const Lent &after, int branch) const;
+
+    Book book_;
+    Lent before_;
+    std::vector<Outage> all_;
+};

@@ -7,15 +7,10 @@
 #include <algorithm>
 #include <cstdlib>
 
-template <class Engine> Verdict judge(Engine &engine, int buses, int surplus) {
-    Verdict verdict;
-    verdict.shortage = surplus - engine.solve();
-    verdict.kind = verdict.shortage > 0 ? Kind::is_short : Kind::carries;
-    if (verdict.shortage == 0) return verdict;
-    for (int bus = 0; bus < buses; ++bus) {
-        if (engine.reached(bus)) verdict.group[bus / 8] |= 0x80 >> bus % 8;
-    }
-    return verdict;
+template <class Engine> Verdict judge(Engine &engine, int surplus) {
+    int shortage = surplus - engine.solve();
+    if (shortage == 0) return {Kind::carries, 0, {}};
+    return {Kind::is_short, shortage, engine.group()};
 }
 
 template <class Engine> int load(Engine &engine, const Book &book) {
@@ -34,13 +29,13 @@ template <class Engine> Screened screen_afresh(const Book &book) {
     Engine engine(book);
     Screened all;
     int surplus = load(engine, book);
-    all.base = judge(engine, book.buses(), surplus);
+    all.base = judge(engine, surplus);
     all.losses.resize(book.count());
     if (all.base.shortage > 0) return all;
     for (int k = 0; k < book.count(); ++k) {
         if (!book.branches[k].served) continue;
         engine.set_branch(k, 0, 0);
-        all.losses[k] = judge(engine, book.buses(), surplus);
+        all.losses[k] = judge(engine, surplus);
         engine.set_branch(k, book.limit(k), book.limit(k));
     }
     return all;
@@ -51,7 +46,7 @@ template <class Engine> Screened screen_from_base(const Book &book) {
     Engine engine(book);
     Screened all;
     int surplus = load(engine, book);
-    all.base = judge(engine, book.buses(), surplus);
+    all.base = judge(engine, surplus);
     all.losses.resize(book.count());
     if (all.base.shortage > 0) return all;
     std::vector<int> flow = engine.flows();
@@ -70,7 +65,7 @@ template <class Engine> Screened screen_from_base(const Book &book) {
         engine.set_branch(k, 0, 0);
         engine.set_supply(from, std::abs(flow[k]));
         engine.set_demand(to, std::abs(flow[k]));
-        all.losses[k] = judge(engine, book.buses(), std::abs(flow[k]));
+        all.losses[k] = judge(engine, std::abs(flow[k]));
         engine.set_supply(from, 0);
         engine.set_demand(to, 0);
         engine.set_branch(k, book.limit(k) - flow[k], book.limit(k) + flow[k]);

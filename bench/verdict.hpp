@@ -7,6 +7,8 @@
 // Bus k is bit 7 - k mod 8 of byte k / 8.
 using Group = std::array<uint8_t, 16>;
 
+inline void add_bus(Group &group, int bus) { group[bus / 8] |= 0x80 >> bus % 8; }
+
 enum class Kind : uint8_t { out, carries, is_short };
 
 struct Verdict {
