@@ -7,7 +7,7 @@ use native.Mathlib.Omega.{arith}
 use borrow.Author.Tests.{eqb-true, eq-eqb}
 use lib.Dec.{eqb}
 use lib.IntN.{ℤ}
-use lib.ListN.{length, getD}
+use lib.ListN.{length}
 use Rattle.rows.specs.Row.{nth, every}
 use Rattle.rows.specs.Bit.{has}
 use Rattle.rows.proofs.Row.{every-at, every-from}
@@ -19,7 +19,7 @@ use Rattle.verdict.specs.Record.{recordAt}
 use Rattle.verdict.proofs.Alike.{SameFlow, balanced-alike}
 use Rattle.record.specs.Bytes.{listed}
 use Rattle.outage.specs.Fit.{Left, Tested, Countable, Counted, Lendable, Fitted}
-use Rattle.outage.specs.Shortlist.{listedAt}
+use Rattle.outage.specs.Shortlist.{listedIf}
 use Rattle.outage.specs.declared.Lent.{Lent}
 use Rattle.reroute.specs.declared.Latent.{Latent}
 
@@ -68,15 +68,15 @@ module _ (W : Wires) (flow : List ℤ) (live gain load : List ℕ) where
     }
 
 -- ---- The shortlist's test.
-module _ (served : List Bool) (touched table : List ℕ) (k : ℕ) where
-  pub by-service : getD served k false ≡ false → true ≡ listedAt served touched table k
-  unfolding listedAt
+module _ (serving : Bool) (touched table : List ℕ) (k : ℕ) where
+  pub by-service : serving ≡ false → true ≡ listedIf serving touched table k
+  unfolding listedIf
   by-service e = rw e refl
 
-  pub by-touch : getD served k false ≡ true → has touched k ≡ true → true ≡ listedAt served touched table k
-  unfolding listedAt
+  pub by-touch : serving ≡ true → has touched k ≡ true → true ≡ listedIf serving touched table k
+  unfolding listedIf
   by-touch e h = rw (e, h) refl
 
-  pub by-record : getD served k false ≡ true → has touched k ≡ false → listed (recordAt table k) touched ≡ listedAt served touched table k
-  unfolding listedAt
+  pub by-record : serving ≡ true → has touched k ≡ false → listed (recordAt table k) touched ≡ listedIf serving touched table k
+  unfolding listedIf
   by-record e h = rw (e, h) refl

@@ -17,7 +17,7 @@ use Rattle.search.specs.declared.Wires.{Wires}
 use Rattle.verdict.specs.Case.{Case}
 use Rattle.verdict.specs.Record.{recordAt, TrueRecord}
 use Rattle.screen.specs.State.{State, Poised, Wrote}
-use Rattle.outage.specs.Shortlist.{listedAt, judgedOf, Refreshed, Redone}
+use Rattle.outage.specs.Shortlist.{listedIf, listedAt, judgedOf, Refreshed, Redone}
 
 -- Records past the place written so far are as they were lent.
 record-same : (t t′ : List ℕ) (n k : ℕ) → length t′ ≡ length t → n ≤ k → ((j : ℕ) → 52 * n ≤ j → nth t′ j ≡ nth t j) → recordAt t′ k ≡ recordAt t k
@@ -58,7 +58,7 @@ module _ (C : Case) (f : ℕ → ℤ) (served : List Bool) (touched : List ℕ) 
 
 -- A record not yet reached is tested as it was lent.
 listed-same : (served : List Bool) (touched t t′ : List ℕ) (k : ℕ) → recordAt t′ k ≡ recordAt t k → listedAt served touched t′ k ≡ listedAt served touched t k
-unfolding listedAt
+unfolding listedIf
 listed-same served touched t t′ k e = rw e refl
 
 module _ (W : Wires) (served : List Bool) (live a b touched : List ℕ) where

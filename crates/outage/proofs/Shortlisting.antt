@@ -20,7 +20,7 @@ use Rattle.verdict.specs.Record.{recordAt, verdictOf, names}
 use Rattle.verdict.specs.Update.{Shortlisted, not-served, not-carrying, is-touched, names-touched, Updated}
 use Rattle.record.specs.Bytes.{listed}
 use Rattle.screen.specs.State.{Differs, Changed}
-use Rattle.outage.specs.Shortlist.{listedAt, judgedOf, Marked, Refreshed}
+use Rattle.outage.specs.Shortlist.{listedIf, listedAt, judgedOf, Marked, Refreshed}
 use Rattle.outage.specs.Promise.{Judges}
 
 -- ---- The bits of touched branches.
@@ -46,7 +46,7 @@ marked {n} {a} {b} {k} {row} few u c =
 module _ (C : Case) (served : List Bool) (touched : List ℕ) (T : ℕ → Type 0) (few : C .branches ≤ 256) (served-is : (k : ℕ) → getD served k false ≡ C .served k)
     (marks : (j : ℕ) → j < C .branches → T j → has touched j ≡ true) (marked-only : (j : ℕ) → has touched j ≡ true → (j < C .branches) × T j) (table : List ℕ) where
   pub shortlisted-listed : (k : ℕ) → k < C .branches → Shortlisted C table T k → listedAt served touched table k ≡ true
-  unfolding listedAt listed
+  unfolding listedIf listed
   shortlisted-listed k u (not-served e) = rw (served-is k, e) refl
   shortlisted-listed k u (not-carrying n) =
       rw (ne-eqb (verdictOf (recordAt table k)) 1 n) (or-two (not (getD served k false)) (has touched k) true refl)
@@ -69,7 +69,7 @@ module _ (C : Case) (served : List Bool) (touched : List ℕ) (T : ℕ → Type 
 
   -- Off the shortlist the test says no.
   pub unlisted : (k : ℕ) → k < C .branches → (Shortlisted C table T k → ⊥) → listedAt served touched table k ≡ false
-  unfolding listedAt listed
+  unfolding listedIf listed
   unlisted k u no-short = all-false _ _ _ _
       (by (not (getD served k false)) (λ e. no-short (not-served (sym (served-is k) ∙ turned _ e))))
       (by (has touched k) (λ e. no-short (is-touched (marked-only k e .1))))
@@ -117,4 +117,4 @@ module _ (C : Case) (served : List Bool) (touched : List ℕ) (T : ℕ → Type 
 
       off : (k : ℕ) → k < C .branches → (Shortlisted C table T k → C .served k ≡ true → ⊥) → (s : Bool) → C .served k ≡ s → (listedAt served touched table k && getD served k false) ≡ false
       off k u h true e = rw (unlisted k u (λ l. h l e)) refl
-      off k u h false e = rw (served-is k, e) (no (listedAt served touched table k))
+      off k u h false e = rw (served-is k, e) (no (listedIf false touched table k))

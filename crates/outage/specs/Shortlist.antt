@@ -15,8 +15,11 @@ use Rattle.verdict.specs.Record.{recordAt, TrueRecord}
 use Rattle.record.specs.Bytes.{listed}
 
 -- Out of service, touched, byte 0 not 1, or a reroute that names a touched branch.
-unfoldable pub listedAt : List Bool → List ℕ → List ℕ → ℕ → Bool
-listedAt served touched table k = not (getD served k false) || (has touched k || listed (recordAt table k) touched)
+unfoldable pub listedIf : Bool → List ℕ → List ℕ → ℕ → Bool
+listedIf serving touched table k = not serving || (has touched k || listed (recordAt table k) touched)
+
+abbrev pub listedAt : List Bool → List ℕ → List ℕ → ℕ → Bool
+listedAt served = λ touched table k. listedIf (getD served k false) touched table k
 
 -- How many of the first n records are on the shortlist and in service: so many losses are judged.
 abbrev pub judgedOf : List Bool → List ℕ → List ℕ → ℕ → ℕ

@@ -10,7 +10,7 @@ ghost use Rattle.rows.specs.Sum.{pick};
 ghost use Rattle.verdict.specs.Case.{Case};
 ghost use Rattle.screen.specs.State.{Poised, State};
 ghost use Rattle.outage.specs.Fit.{Lently, Tested, Countable, Counted, Lendable, Fitted};
-ghost use Rattle.outage.specs.Shortlist.{Marked, listedAt, Redone};
+ghost use Rattle.outage.specs.Shortlist.{Marked, listedIf, Redone};
 ghost use Rattle.outage.specs.Promise.{takeCheck, TakeEnds, answerOf, TakeCounted};
 ghost use Rattle.rows.specs.Answer.{bare, overloaded};
 use reroute::Latent;
@@ -64,15 +64,6 @@ struct Sides {
     goes: [u32; 128],
 }
 
-fn raised(row: [u32; 128], i: usize, x: u32) -> [u32; 128]
-    requires { ⌜ (i < 128) × (nth row i + x < 4294967296) ⌝ }
-    ensures { λ r. ⌜ r ≡ set row i (nth row i + x) ⌝ }
-{
-    let mut more = row;
-    more[i] += x;
-    more
-}
-
 // Counted as if every branch carried its limit ahead and its latent capacity back: the difference is its flow.
 fn count(
     wires: Wires,
@@ -92,8 +83,10 @@ fn count(
         let far = wires.second[k] as usize;
         let limit = live[k];
         let spare = ahead[k];
-        comes = raised(raised(comes, far, limit), near, spare);
-        goes = raised(raised(goes, near, limit), far, spare);
+        comes[far] += limit;
+        comes[near] += spare;
+        goes[near] += limit;
+        goes[far] += spare;
         k += 1;
     }
     Sides { comes, goes }
@@ -146,11 +139,11 @@ fn touch(branches: usize, before: [u32; 256], after: [u32; 256], branch: usize) 
 }
 
 // On the shortlist: out of service, touched, or by its record as it was lent.
-fn is_listed(table: &[u8], served: [bool; 256], touched: [u8; 32], k: usize) -> bool
-    requires { ⌜ (k < 256) × (52 * k + 52 ≤ length (now table)) ⌝ }
-    ensures { λ r. ⌜ r ≡ listedAt served touched (now (table .entry)) k ⌝ }
+fn is_listed(table: &[u8], serving: bool, touched: [u8; 32], k: usize) -> bool
+    requires { ⌜ 52 * k + 52 ≤ length (now table) ⌝ }
+    ensures { λ r. ⌜ r ≡ listedIf serving touched (now (table .entry)) k ⌝ }
 {
-    if !served[k] {
+    if !serving {
         return true;
     }
     if replace::is_named(touched, k) {
@@ -184,7 +177,7 @@ fn refresh(
     let mut judged: usize = 0;
     let mut k: usize = 0;
     while k < wires.branches {
-        if is_listed(table, served, touched, k) {
+        if is_listed(table, served[k], touched, k) {
             screen::put_verdict(table, wires, served, live, latent, k);
             judged = counted(judged, served[k]);
         }

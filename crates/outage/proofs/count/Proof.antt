@@ -1,3 +1,4 @@
+-- What comes to each bus, and what goes from it, over the branches below k.
 use borrow.Author.Needs.{needs}
 use native.Mathlib.Omega.{arith}
 use mathlib.Core.Path.{_≡_, refl}
@@ -13,6 +14,10 @@ Inv-loop wires live ahead comes₀ goes₀ k₀ comes goes k = Counting wires li
 
 abbrev μ-loop : tie.MeasureT-loop
 μ-loop wires live ahead comes₀ goes₀ k₀ comes goes k = wires .branches - k
+
+-- The ends of the branch at hand stand in the rows.
+ends-here : (c : tie.After-far Inv-loop μ-loop) → (nth (c .before .before .before .before .args .t1 .first) (c .before .before .before .loop .k) < 128) × (nth (c .before .before .before .before .args .t1 .second) (c .before .before .before .loop .k) < 128)
+ends-here c = ends-in _ _ _ _ _ (c .before .before .before .loop .inv) (c .before .before .loop-test .taken)
 
 loop-holds : tie.Need-loop-holds Inv-loop μ-loop
 loop-holds c = counting-none _ _ _ _ _ (c .pre) (search needs) (search needs)
@@ -41,41 +46,63 @@ mul-spare c = omega arith
 array-read-spare : tie.Need-array-read-spare Inv-loop μ-loop
 array-read-spare c = omega arith
 
-raised-requires : tie.Need-raised-requires Inv-loop μ-loop
-raised-requires c κs =
-    let v = c .before .before .before .loop .inv in
-    let u = c .before .before .loop-test .taken in
-    let e = ends-in _ _ _ _ _ v u in
-    (e .1, omega (arith, counting-fits _ _ _ _ _ v u _ (e .1) .0))
+mul-comes : tie.Need-mul-comes Inv-loop μ-loop
+mul-comes c = omega (arith, ends-here c)
 
-raised-requires-2 : tie.Need-raised-requires-2 Inv-loop μ-loop
-raised-requires-2 c κs =
-    let at = c .before .before .before .before in
+array-read-comes : tie.Need-array-read-comes Inv-loop μ-loop
+array-read-comes c = omega (arith, ends-here c)
+
+add-comes : tie.Need-add-comes Inv-loop μ-loop
+add-comes c = omega (arith, counting-fits _ _ _ _ _ (c .before .before .before .loop .inv) (c .before .before .loop-test .taken) _ (ends-here c .1) .0)
+
+array-write-comes : tie.Need-array-write-comes Inv-loop μ-loop
+array-write-comes c = omega (arith, ends-here c)
+
+mul-comes-2 : tie.Need-mul-comes-2 Inv-loop μ-loop
+mul-comes-2 c = omega (arith, ends-here c)
+
+array-read-comes-2 : tie.Need-array-read-comes-2 Inv-loop μ-loop
+array-read-comes-2 c = omega (arith, ends-here c)
+
+add-comes-2 : tie.Need-add-comes-2 Inv-loop μ-loop
+add-comes-2 c =
+    let at = c .before .before .before in
     let a = at .before .args in
-    let v = at .loop .inv in
-    let u = c .before .before .before .loop-test .taken in
-    let e = ends-in _ _ _ _ _ v u in
     let k = at .loop .k in
-    let h : nth (a .t1 .second) k < length (at .loop .comes) = omega (arith, v .long, e .1) in
-    (e .0, omega (arith, counting-fits _ _ _ _ _ v u _ (e .0) .0, once-le (at .loop .comes) _ (nth (a .t1 .second) k) (nth (a .t2) k) (nth (a .t1 .first) k) (c .raised .ensures) h))
+    let h : nth (a .t1 .second) k < length (at .loop .comes) = omega (arith, at .loop .inv .long, ends-here c) in
+    omega (arith, counting-fits _ _ _ _ _ (c .before .before .before .loop .inv) (c .before .before .loop-test .taken) _ (ends-here c .0) .0, once-le (at .loop .comes) _ (nth (a .t1 .second) k) (nth (a .t2) k) (nth (a .t1 .first) k) refl h)
 
-raised-requires-3 : tie.Need-raised-requires-3 Inv-loop μ-loop
-raised-requires-3 c κs =
-    let v = c .before .before .before .before .before .loop .inv in
-    let u = c .before .before .before .before .loop-test .taken in
-    let e = ends-in _ _ _ _ _ v u in
-    (e .0, omega (arith, counting-fits _ _ _ _ _ v u _ (e .0) .1))
+array-write-comes-2 : tie.Need-array-write-comes-2 Inv-loop μ-loop
+array-write-comes-2 c = omega (arith, ends-here c)
 
-raised-requires-4 : tie.Need-raised-requires-4 Inv-loop μ-loop
-raised-requires-4 c κs =
-    let at = c .before .before .before .before .before .before in
+mul-goes : tie.Need-mul-goes Inv-loop μ-loop
+mul-goes c = omega (arith, ends-here c)
+
+array-read-goes : tie.Need-array-read-goes Inv-loop μ-loop
+array-read-goes c = omega (arith, ends-here c)
+
+add-goes : tie.Need-add-goes Inv-loop μ-loop
+add-goes c = omega (arith, counting-fits _ _ _ _ _ (c .before .before .before .loop .inv) (c .before .before .loop-test .taken) _ (ends-here c .0) .1)
+
+array-write-goes : tie.Need-array-write-goes Inv-loop μ-loop
+array-write-goes c = omega (arith, ends-here c)
+
+mul-goes-2 : tie.Need-mul-goes-2 Inv-loop μ-loop
+mul-goes-2 c = omega (arith, ends-here c)
+
+array-read-goes-2 : tie.Need-array-read-goes-2 Inv-loop μ-loop
+array-read-goes-2 c = omega (arith, ends-here c)
+
+add-goes-2 : tie.Need-add-goes-2 Inv-loop μ-loop
+add-goes-2 c =
+    let at = c .before .before .before in
     let a = at .before .args in
-    let v = at .loop .inv in
-    let u = c .before .before .before .before .before .loop-test .taken in
-    let e = ends-in _ _ _ _ _ v u in
     let k = at .loop .k in
-    let h : nth (a .t1 .first) k < length (at .loop .goes) = omega (arith, v .long, e .0) in
-    (e .1, omega (arith, counting-fits _ _ _ _ _ v u _ (e .1) .1, once-le (at .loop .goes) _ (nth (a .t1 .first) k) (nth (a .t2) k) (nth (a .t1 .second) k) (c .raised3 .ensures) h))
+    let h : nth (a .t1 .first) k < length (at .loop .goes) = omega (arith, at .loop .inv .long, ends-here c) in
+    omega (arith, counting-fits _ _ _ _ _ (c .before .before .before .loop .inv) (c .before .before .loop-test .taken) _ (ends-here c .1) .1, once-le (at .loop .goes) _ (nth (a .t1 .first) k) (nth (a .t2) k) (nth (a .t1 .second) k) refl h)
+
+array-write-goes-2 : tie.Need-array-write-goes-2 Inv-loop μ-loop
+array-write-goes-2 c = omega (arith, ends-here c)
 
 add-k : tie.Need-add-k Inv-loop μ-loop
 add-k c = omega arith
@@ -84,7 +111,7 @@ loop-less : tie.Need-loop-less Inv-loop μ-loop
 loop-less c = omega arith
 
 loop-again : tie.Need-loop-again Inv-loop μ-loop
-loop-again c = counting-more _ _ _ _ _ (c .before .before .before .before .before .before .before .loop .inv) (c .before .before .before .before .before .before .loop-test .taken) refl refl (c .before .before .before .raised .ensures) (c .before .before .raised2 .ensures) (c .before .raised3 .ensures) (c .raised4 .ensures)
+loop-again c = counting-more _ _ _ _ _ (c .before .before .before .loop .inv) (c .before .before .loop-test .taken) refl refl refl refl refl refl
 
 returns : tie.Need-returns Inv-loop μ-loop
 returns c =
@@ -106,10 +133,22 @@ count-spec =
     array-read-limit
     mul-spare
     array-read-spare
-    raised-requires
-    raised-requires-2
-    raised-requires-3
-    raised-requires-4
+    mul-comes
+    array-read-comes
+    add-comes
+    array-write-comes
+    mul-comes-2
+    array-read-comes-2
+    add-comes-2
+    array-write-comes-2
+    mul-goes
+    array-read-goes
+    add-goes
+    array-write-goes
+    mul-goes-2
+    array-read-goes-2
+    add-goes-2
+    array-write-goes-2
     add-k
     loop-less
     loop-again

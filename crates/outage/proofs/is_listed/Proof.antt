@@ -5,9 +5,6 @@ use Rattle.outage.proofs.Judging.{by-service, by-touch, by-record}
 use Rattle.outage.proofs.is_listed.Statement.{statement}
 use Rattle.outage.proofs.is_listed.Tie as tie
 
-array-read-if1 : tie.Need-array-read-if1
-array-read-if1 c = search needs
-
 returns : tie.Need-returns
 returns c = by-service _ _ _ _ (not-true _ (c .if1 .taken))
 
@@ -26,4 +23,4 @@ returns-3 c = c .listed-at .ensures ∙ by-record _ _ _ _ (not-false _ (c .befor
 pub is-listed-spec : {M : Type 1} → statement M
 is-listed-spec =
     tie.close
-    (tie.spec array-read-if1 returns is-named-requires returns-2 listed-at-requires returns-3)
+    (tie.spec returns is-named-requires returns-2 listed-at-requires returns-3)

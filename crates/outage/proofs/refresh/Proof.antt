@@ -14,8 +14,11 @@ abbrev μ-loop : tie.MeasureT-loop
 loop-holds : tie.Need-loop-holds Inv-loop μ-loop
 loop-holds c = going-none _ _ _ _ _ _ (c .before .pre .0) (c .before .pre .1)
 
+array-read-is-listed : tie.Need-array-read-is-listed Inv-loop μ-loop
+array-read-is-listed c = let g = c .before .before .before .loop .inv in omega (arith, c .before .if1 .taken, g .poised .state .held .linked .wired .size)
+
 is-listed-requires : tie.Need-is-listed-requires Inv-loop μ-loop
-is-listed-requires c κs = let g = c .before .before .before .loop .inv in (omega (arith, c .before .if1 .taken, g .poised .state .held .linked .wired .size), omega (arith, c .before .if1 .taken, g .room, g .long))
+is-listed-requires c κs = let g = c .before .before .before .loop .inv in omega (arith, c .before .if1 .taken, g .room, g .long)
 
 put-verdict-requires : tie.Need-put-verdict-requires Inv-loop μ-loop
 put-verdict-requires c κs = let g = c .before .before .before .before .before .before .loop .inv in (g .poised, c .before .before .before .before .if1 .taken, omega (arith, c .before .before .before .before .if1 .taken, g .room, g .long))
@@ -54,6 +57,7 @@ refresh-spec =
     Inv-loop
     μ-loop
     loop-holds
+    array-read-is-listed
     is-listed-requires
     put-verdict-requires
     array-read-counted
