@@ -13,7 +13,6 @@ use Rattle.rows.specs.Sum.{pick}
 use Rattle.rows.proofs.Sum.{pick-add, over-set}
 use Rattle.search.specs.Search.{choose, narrow, Distinct}
 use Rattle.search.specs.declared.Wires.{Wires}
-use Rattle.search.specs.declared.Work.{Work}
 use Rattle.reroute.specs.Flow.{Sums}
 use Rattle.reroute.specs.Inside.{ends, Movable, Moves}
 use Rattle.reroute.proofs.Walks.{Hop, Walk, walk-start, walk-bus, walk-end, both, two, branch, walk-on, to-second, walk-forth, walk-back}
@@ -37,6 +36,7 @@ narrow-kept f s a b k x y v (j ∷ js) n =
 -- x is moved on the way from the goal back to bus `at`; on the rest of the way every branch still has it.
 pub record Going (n : ℕ) (f s a₀ b₀ m : List ℕ) (goal x : ℕ) (a b : List ℕ) (at steps : ℕ) : Type 0 where
   pub few : n ≤ 256
+  pub long : length m ≡ 128
   pub walk : Walk n f s m goal at steps
   pub fits : x ≤ narrow f s a b at (walk .ks)
   pub once : Distinct (walk .ks)
@@ -47,16 +47,17 @@ pub record Going (n : ℕ) (f s a₀ b₀ m : List ℕ) (goal x : ℕ) (a b : Li
   pub beyond : (k : ℕ) → n ≤ k → nth a k ≡ nth a₀ k
   pub drift : (i : ℕ) → ends n f a i + ends n s a₀ i + pick (eqb at i) x ≡ ends n f a₀ i + ends n s a i + pick (eqb goal i) x
 
-pub going-start : {W : Wires} {w : Work} {goal x : ℕ} → length (w .ahead) ≡ 256 → length (w .back) ≡ 256 → Movable W w goal x → Going (W .branches) (W .first) (W .second) (w .ahead) (w .back) (w .marks) goal x (w .ahead) (w .back) goal 0
+pub going-start : {W : Wires} {m a b : List ℕ} {goal x : ℕ} → Movable W m a b goal x → Going (W .branches) (W .first) (W .second) a b m goal x a b goal 0
 unfolding walk-start
-going-start {W} {w} {goal} {x} la lb M =
+going-start {W} {m} {a} {b} {goal} {x} M =
     record {
       few = M .few;
-      walk = walk-start (W .branches) (W .first) (W .second) (w .marks) goal (M .trail .from) (M .trail .ks) (M .trail .path) (M .trail .short);
+      long = M .long;
+      walk = walk-start (W .branches) (W .first) (W .second) m goal (M .trail .from) (M .trail .ks) (M .trail .path) (M .trail .short);
       fits = omega (arith, M .fits, M .trail .least);
       once = M .trail .branches-once;
-      long-a = la;
-      long-b = lb;
+      long-a = M .long-a;
+      long-b = M .long-b;
       sums = M .sums;
       same = λ k. refl;
       beyond = λ k l. refl;
@@ -64,8 +65,8 @@ going-start {W} {w} {goal} {x} la lb M =
     }
 
 module _ {n : ℕ} {f s a₀ b₀ m : List ℕ} {goal x : ℕ} {a b : List ℕ} {at steps : ℕ} (G : Going n f s a₀ b₀ m goal x a b at steps) where
-  pub going-bus : at < 128
-  going-bus = walk-bus n f s m goal at steps (G .walk)
+  pub going-bus : at < length m
+  going-bus = omega (arith, G .long, walk-bus n f s m goal at steps (G .walk))
 
   module _ (z : nth m at ≡ 1 → ⊥) where
     pub going-two : 2 ≤ nth m at
@@ -102,6 +103,7 @@ module _ {n : ℕ} {f s a₀ b₀ m : List ℕ} {goal x : ℕ} {a b : List ℕ} 
     step u p q W e l sum d =
         record {
           few = G .few;
+          long = G .long;
           walk = W;
           fits = rw e (omega (arith, l, narrow-kept f s a b (nth m at - 2) p q u (H .rest) fresh));
           once = rw e (record { once = λ i j g h w. lone .once (suc i) (suc j) (omega arith) (omega arith) w });
@@ -190,8 +192,8 @@ module _ {n : ℕ} {f s a₀ b₀ m : List ℕ} {goal x : ℕ} {a b : List ℕ} 
             ap (λ (v : ℕ). pick (eqb v i) x) first-at,
           ))
 
-pub going-end : {W : Wires} {w : Work} {goal x : ℕ} {a b : List ℕ} {at steps : ℕ} → Going (W .branches) (W .first) (W .second) (w .ahead) (w .back) (w .marks) goal x a b at steps → nth (w .marks) at ≡ 1
-    → Moves W w goal x (record { ahead = a; back = b })
+pub going-end : {W : Wires} {m a₀ b₀ a b : List ℕ} {goal x at steps : ℕ} → Going (W .branches) (W .first) (W .second) a₀ b₀ m goal x a b at steps → nth m at ≡ 1
+    → Moves W m a₀ b₀ goal x a b
 going-end {goal = goal} {at = at} {steps = steps} G z =
     record {
       same = G .same;

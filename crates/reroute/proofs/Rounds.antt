@@ -18,13 +18,14 @@ use Rattle.search.specs.declared.Found.{Found}
 use Rattle.search.proofs.Answers.{route-of}
 use Rattle.reroute.specs.Flow.{total, Ready}
 use Rattle.reroute.specs.Inside.{roleOf, Roles, Back, Starts, Movable, ends, Moves}
-use Rattle.reroute.specs.declared.Latent.{Latent}
 use Rattle.reroute.proofs.Rows.{set-less}
 use Rattle.reroute.proofs.Casting.{role-surplus, role-deficit}
 
 -- From the rows a₀ b₀ l₀ d₀ to a b l d: each bus's balance is what it was, and r has the roles.
 pub record Round (W : Wires) (a₀ b₀ l₀ d₀ a b l d r : List ℕ) (left : ℕ) : Type 0 where
   pub ready : Ready W a₀ b₀ l₀ d₀
+  pub long-a : length a ≡ 256
+  pub long-b : length b ≡ 256
   pub long-l : length l ≡ 128
   pub long-d : length d ≡ 128
   pub long-r : length r ≡ 128
@@ -38,10 +39,12 @@ pub record Round (W : Wires) (a₀ b₀ l₀ d₀ a b l d r : List ℕ) (left : 
   pub roles : Roles (W .buses) l d r
   pub sum : left ≡ total (W .buses) l
 
-pub round-none : {W : Wires} {a b l d r : List ℕ} {left : ℕ} → Ready W a b l d → length l ≡ 128 → length d ≡ 128 → length r ≡ 128 → Roles (W .buses) l d r → left ≡ total (W .buses) l → Round W a b l d a b l d r left
-round-none P p q o K e =
+pub round-none : {W : Wires} {a b l d r : List ℕ} {left : ℕ} → Ready W a b l d → length a ≡ 256 → length b ≡ 256 → length l ≡ 128 → length d ≡ 128 → length r ≡ 128 → Roles (W .buses) l d r → left ≡ total (W .buses) l → Round W a b l d a b l d r left
+round-none P la lb p q o K e =
     record {
       ready = P;
+      long-a = la;
+      long-b = lb;
       long-l = p;
       long-d = q;
       long-r = o;
@@ -70,8 +73,8 @@ module _ {W : Wires} {w : Work} {r : List ℕ} {fd : Found} (S : Searched W w r 
   few : W .branches ≤ 256
   few = R .ready .linked .wired .size
 
-  pub round-back : Back W (fd .work) goal
-  round-back = record { few = few; from = routed .trail .from; ks = routed .trail .ks; path = routed .trail .path; short = routed .trail .short }
+  pub round-back : length (fd .work .marks) ≡ 128 → Back W (fd .work .marks) goal
+  round-back l = record { long = l; few = few; from = routed .trail .from; ks = routed .trail .ks; path = routed .trail .path; short = routed .trail .short }
 
   pub goal-bus : goal < 128
   goal-bus = omega (arith, routed .bus, R .ready .linked .wired .few)
@@ -79,7 +82,7 @@ module _ {W : Wires} {w : Work} {r : List ℕ} {fd : Found} (S : Searched W w r 
   goal-some : 0 < nth d goal
   goal-some = role-deficit (nth l goal) (nth d goal) (sym (R .roles .role goal (routed .bus)) ∙ routed .goal)
 
-  module _ {start : ℕ} (St : Starts W (fd .work) goal start) where
+  module _ {start : ℕ} (St : Starts W (fd .work .marks) goal start) where
     is-start : routed .trail .from ≡ start
     is-start = St .is (routed .trail .from) (routed .trail .ks) (routed .trail .path)
 
@@ -103,14 +106,17 @@ module _ {W : Wires} {w : Work} {r : List ℕ} {fd : Found} (S : Searched W w r 
     apart g = let z : nth l start ≡ 0 = subst (λ (v : ℕ). nth l v ≡ 0) g no-more in omega (arith, start-some)
 
     module _ {x : ℕ} (A : Amount room (nth l start) (nth d goal) x) where
-      pub round-movable : Movable W (fd .work) goal x
-      round-movable =
+      pub round-movable : length (fd .work .marks) ≡ 128 → Movable W (fd .work .marks) (w .ahead) (w .back) goal x
+      round-movable l =
           record {
+            long = l;
+            long-a = R .long-a;
+            long-b = R .long-b;
             few = few;
             room = room;
-            trail = rw (S .same-ahead, S .same-back) (routed .trail);
+            trail = routed .trail;
             fits = A .in-room;
-            sums = rw (S .same-ahead, S .same-back) (record { fit = λ k h. omega (arith, R .ready .sums .fit k h, R .same k) });
+            sums = record { fit = λ k h. omega (arith, R .ready .sums .fit k h, R .same k) };
           }
 
       pub in-left : x ≤ left
@@ -156,19 +162,21 @@ module _ {W : Wires} {w : Work} {r : List ℕ} {fd : Found} (S : Searched W w r 
                   getD-set-other d goal i (nth d goal - x) 0 n,
                 ) (R .roles .role i h)
 
-        pub round-again : {v : Latent} → Moves W (fd .work) goal x v
-            → Round W a₀ b₀ l₀ d₀ (v .ahead) (v .back) (set l start (nth l start - x)) (set d goal (nth d goal - x)) (set (set r start p) goal q) (left - x)
-        round-again moved =
+        pub round-again : {a′ b′ : List ℕ} → length a′ ≡ 256 → length b′ ≡ 256 → Moves W (fd .work .marks) (w .ahead) (w .back) goal x a′ b′
+            → Round W a₀ b₀ l₀ d₀ a′ b′ (set l start (nth l start - x)) (set d goal (nth d goal - x)) (set (set r start p) goal q) (left - x)
+        round-again la lb moved =
             record {
               ready = R .ready;
+              long-a = la;
+              long-b = lb;
               long-l = length-set l start (nth l start - x) ∙ R .long-l;
               long-d = length-set d goal (nth d goal - x) ∙ R .long-d;
               long-r = length-set (set r start p) goal q ∙ length-set r start p ∙ R .long-r;
-              same = λ k. moved .same k ∙ rw (S .same-ahead, S .same-back) (R .same k);
-              beyond = λ k h. moved .beyond k h ∙ rw (S .same-ahead) (R .beyond k h);
+              same = λ k. moved .same k ∙ R .same k;
+              beyond = λ k h. moved .beyond k h ∙ R .beyond k h;
               less-l = λ i. omega (arith, less-at i, R .less-l i);
               less-d = λ i. omega (arith, lack-at i, R .less-d i);
-              drift = λ i. omega (arith, R .drift i, rw (is-start, S .same-ahead) at (moved .drift (routed .trail .from) (routed .trail .ks) (routed .trail .path) i), less-at i, lack-at i);
+              drift = λ i. omega (arith, R .drift i, rw is-start at (moved .drift (routed .trail .from) (routed .trail .ks) (routed .trail .path) i), less-at i, lack-at i);
               roles = record { role = role-at };
               sum = omega (arith, R .sum, A .in-surplus, in-left, over-set (W .buses) all l start (nth l start - x) start-in (omega (arith, R .long-l, start-bus)));
             }

@@ -9,7 +9,6 @@ use Rattle.rows.specs.Row.{nth}
 use Rattle.search.specs.Search.{Joins, Path, stop, via}
 use Rattle.search.specs.Search.Joins.{forth, back}
 use Rattle.search.specs.declared.Wires.{Wires}
-use Rattle.search.specs.declared.Work.{Work}
 use Rattle.reroute.specs.Inside.{Back, Starts}
 
 -- One step back, over branch k.
@@ -110,29 +109,30 @@ module _ (n : ℕ) (f s m : List ℕ) (goal at steps : ℕ) (T : Walk n f s m go
     walk-back g = walk-on _ (to-second g .0)
 
 -- The walk of `trace`.
-pub record Tracing (W : Wires) (w : Work) (goal at steps : ℕ) : Type 0 where
+pub record Tracing (W : Wires) (m : List ℕ) (goal at steps : ℕ) : Type 0 where
+  pub long : length m ≡ 128
   pub few : W .branches ≤ 256
-  pub walk : Walk (W .branches) (W .first) (W .second) (w .marks) goal at steps
+  pub walk : Walk (W .branches) (W .first) (W .second) m goal at steps
 
-pub tracing-start : {W : Wires} {w : Work} {goal : ℕ} → Back W w goal → Tracing W w goal goal 0
-tracing-start {goal = goal} B = record { few = B .few; walk = walk-start _ _ _ _ goal (B .from) (B .ks) (B .path) (B .short) }
+pub tracing-start : {W : Wires} {m : List ℕ} {goal : ℕ} → Back W m goal → Tracing W m goal goal 0
+tracing-start {goal = goal} B = record { long = B .long; few = B .few; walk = walk-start _ _ _ _ goal (B .from) (B .ks) (B .path) (B .short) }
 
-module _ {W : Wires} {w : Work} {goal at steps : ℕ} (T : Tracing W w goal at steps) where
-  pub tracing-bus : at < 128
-  tracing-bus = walk-bus _ _ _ _ goal at steps (T .walk)
+module _ {W : Wires} {m : List ℕ} {goal at steps : ℕ} (T : Tracing W m goal at steps) where
+  pub tracing-bus : at < length m
+  tracing-bus = omega (arith, T .long, walk-bus _ _ _ _ goal at steps (T .walk))
 
-  pub tracing-end : nth (w .marks) at ≡ 1 → Starts W w goal at
+  pub tracing-end : nth m at ≡ 1 → Starts W m goal at
   tracing-end z = record { is = walk-end _ _ _ _ goal at steps (T .walk) z }
 
-  module _ (z : nth (w .marks) at ≡ 1 → ⊥) where
-    pub tracing-two : 2 ≤ nth (w .marks) at
+  module _ (z : nth m at ≡ 1 → ⊥) where
+    pub tracing-two : 2 ≤ nth m at
     tracing-two = two _ _ _ _ goal at steps (T .walk) z
 
-    pub tracing-branch : nth (w .marks) at - 2 < 256
+    pub tracing-branch : nth m at - 2 < 256
     tracing-branch = omega (arith, T .few, branch _ _ _ _ goal at steps (T .walk) z)
 
-    pub tracing-forth : nth (W .second) (nth (w .marks) at - 2) ≡ at → Tracing W w goal (nth (W .first) (nth (w .marks) at - 2)) (steps + 1)
-    tracing-forth g = record { few = T .few; walk = walk-forth _ _ _ _ goal at steps (T .walk) z g }
+    pub tracing-forth : nth (W .second) (nth m at - 2) ≡ at → Tracing W m goal (nth (W .first) (nth m at - 2)) (steps + 1)
+    tracing-forth g = record { long = T .long; few = T .few; walk = walk-forth _ _ _ _ goal at steps (T .walk) z g }
 
-    pub tracing-back : (nth (W .second) (nth (w .marks) at - 2) ≡ at → ⊥) → Tracing W w goal (nth (W .second) (nth (w .marks) at - 2)) (steps + 1)
-    tracing-back g = record { few = T .few; walk = walk-back _ _ _ _ goal at steps (T .walk) z g }
+    pub tracing-back : (nth (W .second) (nth m at - 2) ≡ at → ⊥) → Tracing W m goal (nth (W .second) (nth m at - 2)) (steps + 1)
+    tracing-back g = record { long = T .long; few = T .few; walk = walk-back _ _ _ _ goal at steps (T .walk) z g }

@@ -8,9 +8,7 @@ use Rattle.rows.specs.Row.{nth}
 use Rattle.rows.specs.Sum.{pick, over}
 use Rattle.search.specs.Search.{Path, Trail}
 use Rattle.search.specs.declared.Wires.{Wires}
-use Rattle.search.specs.declared.Work.{Work}
 use Rattle.reroute.specs.Flow.{Sums}
-use Rattle.reroute.specs.declared.Latent.{Latent}
 use Rattle.reroute.specs.declared.Moved.{Moved}
 use Rattle.reroute.specs.declared.Verdict.{Verdict}
 use Rattle.reroute.specs.declared.Verdict.the-variants.{Carries, Short}
@@ -25,38 +23,42 @@ roleOf zero zero = 0
 pub record Roles (n : ℕ) (l d r : List ℕ) : Type 0 where
   pub role : (i : ℕ) → i < n → nth r i ≡ roleOf (nth l i) (nth d i)
 
--- The marks lead back from v.
-pub record Back (W : Wires) (w : Work) (v : ℕ) : Type 0 where
+-- The marks m lead back from v.
+pub record Back (W : Wires) (m : List ℕ) (v : ℕ) : Type 0 where
+  pub long : length m ≡ 128
   pub few : W .branches ≤ 256
   pub from : ℕ
   pub ks : List ℕ
-  pub path : Path (W .branches) (W .first) (W .second) (w .marks) from v ks
+  pub path : Path (W .branches) (W .first) (W .second) m from v ks
   pub short : length ks < 128
 
 -- r is where they lead to.
-pub record Starts (W : Wires) (w : Work) (v r : ℕ) : Type 0 where
-  pub is : (from : ℕ) (ks : List ℕ) → Path (W .branches) (W .first) (W .second) (w .marks) from v ks → from ≡ r
+pub record Starts (W : Wires) (m : List ℕ) (v r : ℕ) : Type 0 where
+  pub is : (from : ℕ) (ks : List ℕ) → Path (W .branches) (W .first) (W .second) m from v ks → from ≡ r
 
 -- The way back from v has x or more on every branch.
-pub record Movable (W : Wires) (w : Work) (v x : ℕ) : Type 0 where
+pub record Movable (W : Wires) (m a b : List ℕ) (v x : ℕ) : Type 0 where
+  pub long : length m ≡ 128
+  pub long-a : length a ≡ 256
+  pub long-b : length b ≡ 256
   pub few : W .branches ≤ 256
   pub room : ℕ
-  pub trail : Trail (W .branches) (W .first) (W .second) (w .ahead) (w .back) (w .marks) v room
+  pub trail : Trail (W .branches) (W .first) (W .second) a b m v room
   pub fits : x ≤ room
-  pub sums : Sums (W .branches) (w .ahead) (w .back)
+  pub sums : Sums (W .branches) a b
 
 -- The sum of the row a over the n branches with bus i at the end f.
 abbrev pub ends : ℕ → List ℕ → List ℕ → ℕ → ℕ
 ends n f a i = over n (λ k. eqb (nth f k) i) (nth a)
 
 -- x is moved from the start of the way to v: at every bus, what leaves it less what arrives grows by x at the start and falls by x at v.
-pub record Moves (W : Wires) (w : Work) (v x : ℕ) (r : Latent) : Type 0 where
-  pub same : (k : ℕ) → nth (r .ahead) k + nth (r .back) k ≡ nth (w .ahead) k + nth (w .back) k
-  pub beyond : (k : ℕ) → W .branches ≤ k → nth (r .ahead) k ≡ nth (w .ahead) k
+pub record Moves (W : Wires) (m a b : List ℕ) (v x : ℕ) (a′ b′ : List ℕ) : Type 0 where
+  pub same : (k : ℕ) → nth a′ k + nth b′ k ≡ nth a k + nth b k
+  pub beyond : (k : ℕ) → W .branches ≤ k → nth a′ k ≡ nth a k
   pub drift :
-      (from : ℕ) (ks : List ℕ) → Path (W .branches) (W .first) (W .second) (w .marks) from v ks
-      → (i : ℕ) → ends (W .branches) (W .first) (r .ahead) i + ends (W .branches) (W .second) (w .ahead) i + pick (eqb from i) x
-      ≡ ends (W .branches) (W .first) (w .ahead) i + ends (W .branches) (W .second) (r .ahead) i + pick (eqb v i) x
+      (from : ℕ) (ks : List ℕ) → Path (W .branches) (W .first) (W .second) m from v ks
+      → (i : ℕ) → ends (W .branches) (W .first) a′ i + ends (W .branches) (W .second) a i + pick (eqb from i) x
+      ≡ ends (W .branches) (W .first) a i + ends (W .branches) (W .second) a′ i + pick (eqb v i) x
 
 -- The first n numbers of a row, few and small enough to be summed.
 pub record Summable (n : ℕ) (row : List ℕ) : Type 0 where

@@ -82,14 +82,14 @@ fn sum(buses: usize, row: [u32; 128]) -> u32
 }
 
 // The start of the way that the marks lead back from the goal; the steps are counted for the proof that it ends.
-fn trace(wires: Wires, work: Work, goal: usize) -> usize
-    requires { ⌜ Back wires work goal ⌝ }
-    ensures { λ r. ⌜ Starts wires work goal r ⌝ }
+fn trace(wires: Wires, marks: &[u16], goal: usize) -> usize
+    requires { ⌜ Back wires (now marks) goal ⌝ }
+    ensures { λ r. ⌜ Starts wires (now (marks .entry)) goal r ⌝ }
 {
     let mut at = goal;
     let mut steps: usize = 0;
     loop {
-        let mark = work.marks[at] as usize;
+        let mark = marks[at] as usize;
         if mark == 1 {
             return at;
         }
@@ -106,18 +106,16 @@ fn trace(wires: Wires, work: Work, goal: usize) -> usize
 }
 
 // Moves x along the way that the marks lead back from the goal: each branch loses it one way and gains it the other.
-fn shift(wires: Wires, work: Work, goal: usize, x: u32) -> Latent
-    requires { ⌜ Movable wires work goal x ⌝ }
-    ensures { λ r. ⌜ Moves wires work goal x r ⌝ }
+fn shift(wires: Wires, marks: &[u16], a: &mut [u32], b: &mut [u32], goal: usize, x: u32)
+    requires { ⌜ Movable wires (now marks) (now a) (now b) goal x ⌝ }
+    ensures { λ _. ⌜ Moves wires (now (marks .entry)) (now (a .entry)) (now (b .entry)) goal x (now (a .exit)) (now (b .exit)) ⌝ }
 {
-    let mut a = work.ahead;
-    let mut b = work.back;
     let mut at = goal;
     let mut steps: usize = 0;
     loop {
-        let mark = work.marks[at] as usize;
+        let mark = marks[at] as usize;
         if mark == 1 {
-            return Latent { ahead: a, back: b };
+            return;
         }
         let k = mark - 2;
         let near = wires.first[k] as usize;
@@ -162,15 +160,12 @@ pub fn reroute(wires: Wires, latent: Latent, rest: Rest) -> Moved
             return outcome(a, b, more, lack, group, left);
         };
         let way = found.work;
-        let start = trace(wires, way, goal);
+        let marks = way.marks;
+        let start = trace(wires, &marks, goal);
         let s = more[start];
         let t = lack[goal];
         let x = smaller(room, smaller(s, t));
-        let moved = shift(wires, way, goal, x);
-        let p = moved.ahead;
-        let q = moved.back;
-        a = p;
-        b = q;
+        shift(wires, &marks, &mut a, &mut b, goal, x);
         more[start] = s - x;
         lack[goal] = t - x;
         row[start] = role(s - x, 0);

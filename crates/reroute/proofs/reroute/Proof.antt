@@ -1,8 +1,9 @@
 -- Each round keeps what `Round` says; each way out is one law of `Ends`.
 use borrow.Author.Needs.{needs}
 use native.Mathlib.Omega.{arith}
-use mathlib.Core.Path.{refl}
+use mathlib.Core.Path.{_≡_, refl}
 use Prim.Native.Nat.{_<_}
+use lib.ListN.{length}
 use Rattle.rows.specs.Row.{nth}
 use Rattle.reroute.proofs.Rounds.{Amount, Round, round-none, round-back, goal-bus, start-bus, round-movable, in-left, round-less, round-again}
 use Rattle.reroute.proofs.Ends.{round-done, round-stuck}
@@ -17,13 +18,16 @@ abbrev μ-loop : tie.MeasureT-loop
 
 -- Both ends of the route stand in the rows.
 start-at : (c : tie.After-trace Inv-loop μ-loop) → c .trace .result < 128
-start-at c = start-bus (c .before .before .before .before .before .explore .ensures) (c .before .before .before .answer .given .1) (c .before .before .before .before .before .before .before .loop .inv) (c .trace .ensures)
+start-at c = start-bus (c .before .before .before .before .before .before .before .explore .ensures) (c .before .before .before .before .before .answer .given .1) (c .before .before .before .before .before .before .before .before .before .loop .inv) (c .trace .ensures)
 
-goal-at : (c : tie.After-trace Inv-loop μ-loop) → c .before .before .before .answer .given .0 .0 < 128
-goal-at c = goal-bus (c .before .before .before .before .before .explore .ensures) (c .before .before .before .answer .given .1) (c .before .before .before .before .before .before .before .loop .inv)
+goal-at : (c : tie.After-trace Inv-loop μ-loop) → c .before .before .before .before .before .answer .given .0 .0 < 128
+goal-at c = goal-bus (c .before .before .before .before .before .before .before .explore .ensures) (c .before .before .before .before .before .answer .given .1) (c .before .before .before .before .before .before .before .before .before .loop .inv)
+
+marks-long : (c : tie.After-trace Inv-loop μ-loop) → length (c .before .before .before .before .before .before .before .explore .result .work .marks) ≡ 128
+marks-long c = search needs
 
 -- What is moved is the smallest of three.
-amount : (c : tie.After-smaller2 Inv-loop μ-loop) → Amount (c .before .before .before .before .before .answer .given .0 .1 .0) (nth (c .before .before .before .before .before .before .before .before .before .loop .more) (c .before .before .trace .result)) (nth (c .before .before .before .before .before .before .before .before .before .loop .lack) (c .before .before .before .before .before .answer .given .0 .0)) (c .smaller2 .result)
+amount : (c : tie.After-smaller2 Inv-loop μ-loop) → Amount (c .before .before .before .before .before .before .before .answer .given .0 .1 .0) (nth (c .before .before .before .before .before .before .before .before .before .before .before .loop .more) (c .before .before .trace .result)) (nth (c .before .before .before .before .before .before .before .before .before .before .before .loop .lack) (c .before .before .before .before .before .before .before .answer .given .0 .0)) (c .smaller2 .result)
 amount c = record { in-room = omega arith; in-surplus = omega arith; in-deficit = omega arith; some = λ p q r. omega arith }
 
 roles-requires : tie.Need-roles-requires Inv-loop μ-loop
@@ -33,7 +37,7 @@ sum-requires : tie.Need-sum-requires Inv-loop μ-loop
 sum-requires c κs = record { few = c .before .before .before .before .before .pre .linked .wired .few; small = c .before .before .before .before .before .pre .small }
 
 loop-holds : tie.Need-loop-holds Inv-loop μ-loop
-loop-holds c = round-none (c .before .before .before .before .before .before .pre) (search needs) (search needs) (search needs) (c .before .roles .ensures) (c .sum .ensures)
+loop-holds c = round-none (c .before .before .before .before .before .before .pre) (search needs) (search needs) (search needs) (search needs) (search needs) (c .before .roles .ensures) (c .sum .ensures)
 
 explore-requires : tie.Need-explore-requires Inv-loop μ-loop
 explore-requires c κs = record { linked = c .before .loop .inv .ready .linked; blank = refl }
@@ -50,8 +54,11 @@ outcome-requires c κs = tt
 returns : tie.Need-returns Inv-loop μ-loop
 returns c = rw (c .outcome .ensures) (round-stuck (c .before .before .before .before .explore .ensures) (c .before .before .enum-told .given .1) (omega arith) (c .before .before .before .before .before .before .loop .inv))
 
+slice-aggregate-trace : tie.Need-slice-aggregate-trace Inv-loop μ-loop
+slice-aggregate-trace c = search needs
+
 trace-requires : tie.Need-trace-requires Inv-loop μ-loop
-trace-requires c κs = round-back (c .before .before .before .before .explore .ensures) (c .before .before .answer .given .1) (c .before .before .before .before .before .before .loop .inv)
+trace-requires c κs = round-back (c .before .before .before .before .before .before .explore .ensures) (c .before .before .before .before .answer .given .1) (c .before .before .before .before .before .before .before .before .loop .inv) (search needs)
 
 mul-s : tie.Need-mul-s Inv-loop μ-loop
 mul-s c = omega (arith, start-at c)
@@ -71,53 +78,62 @@ smaller-requires c κs = tt
 smaller-requires-2 : tie.Need-smaller-requires-2 Inv-loop μ-loop
 smaller-requires-2 c κs = tt
 
+slice-aggregate-shift : tie.Need-slice-aggregate-shift Inv-loop μ-loop
+slice-aggregate-shift c = search (needs, marks-long (c .before .before .before))
+
+slice-aggregate-shift-2 : tie.Need-slice-aggregate-shift-2 Inv-loop μ-loop
+slice-aggregate-shift-2 c = search needs
+
+slice-aggregate-shift-3 : tie.Need-slice-aggregate-shift-3 Inv-loop μ-loop
+slice-aggregate-shift-3 c = search needs
+
 shift-requires : tie.Need-shift-requires Inv-loop μ-loop
-shift-requires c κs = round-movable (c .before .before .before .before .before .before .before .explore .ensures) (c .before .before .before .before .before .answer .given .1) (c .before .before .before .before .before .before .before .before .before .loop .inv) (c .before .before .trace .ensures) (amount (c))
+shift-requires c κs = round-movable (c .before .before .before .before .before .before .before .before .before .before .before .before .explore .ensures) (c .before .before .before .before .before .before .before .before .before .before .answer .given .1) (c .before .before .before .before .before .before .before .before .before .before .before .before .before .before .loop .inv) (c .before .before .before .before .before .trace .ensures) (amount (c .before .before .before)) (marks-long (c .before .before .before .before .before))
 
 sub-more : tie.Need-sub-more Inv-loop μ-loop
-sub-more c = amount (c .before .before .before) .in-surplus
+sub-more c = amount (c .before .before .before .before .before .before) .in-surplus
 
 mul-more : tie.Need-mul-more Inv-loop μ-loop
-mul-more c = omega (arith, start-at (c .before .before .before .before .before))
+mul-more c = omega (arith, start-at (c .before .before .before .before .before .before .before .before))
 
 array-write-more : tie.Need-array-write-more Inv-loop μ-loop
-array-write-more c = omega (arith, start-at (c .before .before .before .before .before))
+array-write-more c = omega (arith, start-at (c .before .before .before .before .before .before .before .before))
 
 sub-lack : tie.Need-sub-lack Inv-loop μ-loop
-sub-lack c = amount (c .before .before .before) .in-deficit
+sub-lack c = amount (c .before .before .before .before .before .before) .in-deficit
 
 mul-lack : tie.Need-mul-lack Inv-loop μ-loop
-mul-lack c = omega (arith, goal-at (c .before .before .before .before .before))
+mul-lack c = omega (arith, goal-at (c .before .before .before .before .before .before .before .before))
 
 array-write-lack : tie.Need-array-write-lack Inv-loop μ-loop
-array-write-lack c = omega (arith, goal-at (c .before .before .before .before .before))
+array-write-lack c = omega (arith, goal-at (c .before .before .before .before .before .before .before .before))
 
 sub-role : tie.Need-sub-role Inv-loop μ-loop
-sub-role c = amount (c .before .before .before) .in-surplus
+sub-role c = amount (c .before .before .before .before .before .before) .in-surplus
 
 role-requires : tie.Need-role-requires Inv-loop μ-loop
 role-requires c κs = tt
 
 array-write-row : tie.Need-array-write-row Inv-loop μ-loop
-array-write-row c = omega (arith, start-at (c .before .before .before .before .before .before))
+array-write-row c = omega (arith, start-at (c .before .before .before .before .before .before .before .before .before))
 
 sub-role-2 : tie.Need-sub-role-2 Inv-loop μ-loop
-sub-role-2 c = amount (c .before .before .before .before) .in-deficit
+sub-role-2 c = amount (c .before .before .before .before .before .before .before) .in-deficit
 
 role-requires-2 : tie.Need-role-requires-2 Inv-loop μ-loop
 role-requires-2 c κs = tt
 
 array-write-row-2 : tie.Need-array-write-row-2 Inv-loop μ-loop
-array-write-row-2 c = omega (arith, goal-at (c .before .before .before .before .before .before .before))
+array-write-row-2 c = omega (arith, goal-at (c .before .before .before .before .before .before .before .before .before .before))
 
 sub-left : tie.Need-sub-left Inv-loop μ-loop
-sub-left c = in-left (c .before .before .before .before .before .before .before .before .before .before .before .before .explore .ensures) (c .before .before .before .before .before .before .before .before .before .before .answer .given .1) (c .before .before .before .before .before .before .before .before .before .before .before .before .before .before .loop .inv) (c .before .before .before .before .before .before .before .trace .ensures) (amount (c .before .before .before .before .before))
+sub-left c = in-left (c .before .before .before .before .before .before .before .before .before .before .before .before .before .before .before .before .before .explore .ensures) (c .before .before .before .before .before .before .before .before .before .before .before .before .before .before .before .answer .given .1) (c .before .before .before .before .before .before .before .before .before .before .before .before .before .before .before .before .before .before .before .loop .inv) (c .before .before .before .before .before .before .before .before .before .before .trace .ensures) (amount (c .before .before .before .before .before .before .before .before))
 
 loop-less : tie.Need-loop-less Inv-loop μ-loop
-loop-less c = round-less (c .before .before .before .before .before .before .before .before .before .before .before .before .explore .ensures) (c .before .before .before .before .before .before .before .before .before .before .answer .given .1) (c .before .before .before .before .before .before .before .before .before .before .before .before .before .before .loop .inv) (c .before .before .before .before .before .before .before .trace .ensures) (amount (c .before .before .before .before .before))
+loop-less c = round-less (c .before .before .before .before .before .before .before .before .before .before .before .before .before .before .before .before .before .explore .ensures) (c .before .before .before .before .before .before .before .before .before .before .before .before .before .before .before .answer .given .1) (c .before .before .before .before .before .before .before .before .before .before .before .before .before .before .before .before .before .before .before .loop .inv) (c .before .before .before .before .before .before .before .before .before .before .trace .ensures) (amount (c .before .before .before .before .before .before .before .before))
 
 loop-again : tie.Need-loop-again Inv-loop μ-loop
-loop-again c = round-again (c .before .before .before .before .before .before .before .before .before .before .before .before .explore .ensures) (c .before .before .before .before .before .before .before .before .before .before .answer .given .1) (c .before .before .before .before .before .before .before .before .before .before .before .before .before .before .loop .inv) (c .before .before .before .before .before .before .before .trace .ensures) (amount (c .before .before .before .before .before)) (c .before .role .ensures) (c .role2 .ensures) (c .before .before .before .before .shift .ensures)
+loop-again c = round-again (c .before .before .before .before .before .before .before .before .before .before .before .before .before .before .before .before .before .explore .ensures) (c .before .before .before .before .before .before .before .before .before .before .before .before .before .before .before .answer .given .1) (c .before .before .before .before .before .before .before .before .before .before .before .before .before .before .before .before .before .before .before .loop .inv) (c .before .before .before .before .before .before .before .before .before .before .trace .ensures) (amount (c .before .before .before .before .before .before .before .before)) (c .before .role .ensures) (c .role2 .ensures) (search needs) (search needs) (c .before .before .before .before .shift .ensures)
 
 outcome-requires-2 : tie.Need-outcome-requires-2 Inv-loop μ-loop
 outcome-requires-2 c κs = tt
@@ -139,6 +155,7 @@ reroute-spec =
     enum-told
     outcome-requires
     returns
+    slice-aggregate-trace
     trace-requires
     mul-s
     array-read-s
@@ -146,6 +163,9 @@ reroute-spec =
     array-read-t
     smaller-requires
     smaller-requires-2
+    slice-aggregate-shift
+    slice-aggregate-shift-2
+    slice-aggregate-shift-3
     shift-requires
     sub-more
     mul-more

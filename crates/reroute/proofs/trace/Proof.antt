@@ -8,22 +8,22 @@ use Rattle.reroute.proofs.trace.Statement.{statement}
 use Rattle.reroute.proofs.trace.Tie as tie
 
 abbrev Inv-loop : tie.InvT-loop
-Inv-loop goal wires work at₀ steps₀ at steps = Tracing wires work goal at steps
+Inv-loop marks goal wires at₀ steps₀ at steps = Tracing wires marks goal at steps
 
 abbrev μ-loop : tie.MeasureT-loop
-μ-loop goal wires work at₀ steps₀ at steps = 128 - steps
+μ-loop marks goal wires at₀ steps₀ at steps = 128 - steps
 
 loop-holds : tie.Need-loop-holds Inv-loop μ-loop
 loop-holds c = tracing-start (c .pre)
 
 mul-mark : tie.Need-mul-mark Inv-loop μ-loop
-mul-mark c = omega (arith, tracing-bus (c .loop .inv))
+mul-mark c = omega (arith, tracing-bus (c .loop .inv), c .loop .inv .long)
 
-element-copy-out-mark : tie.Need-element-copy-out-mark Inv-loop μ-loop
-element-copy-out-mark c = omega (arith, tracing-bus (c .loop .inv))
+shared-slice-read-mark : tie.Need-shared-slice-read-mark Inv-loop μ-loop
+shared-slice-read-mark c = tracing-bus (c .before .loop .inv)
 
 cast-mark : tie.Need-cast-mark Inv-loop μ-loop
-cast-mark c = search needs
+cast-mark c = omega (arith, c .shared-slice-known .given (c .before .loop .at))
 
 returns : tie.Need-returns Inv-loop μ-loop
 returns c = tracing-end (c .before .before .loop .inv) (c .if1 .taken)
@@ -64,7 +64,7 @@ trace-spec =
     μ-loop
     loop-holds
     mul-mark
-    element-copy-out-mark
+    shared-slice-read-mark
     cast-mark
     returns
     sub-k
