@@ -38,6 +38,7 @@ fn put_decimal(out: &mut [u8], at: usize, n: u64) -> usize
 pub fn put_next(out: &mut [u8], at: usize, n: u64) -> usize
     requires { ⌜ at + 21 ≤ length (now out) ⌝ }
     ensures { λ r. ⌜ Added (nextOf n) (now (out .entry)) at (now (out .exit)) r ⌝ }
+    ensures { λ r. ⌜ r ≤ at + 21 ⌝ }
 {
     let after = put_byte(out, at, b' ');
     put_decimal(out, after, n)
@@ -47,6 +48,7 @@ pub fn put_next(out: &mut [u8], at: usize, n: u64) -> usize
 pub fn put_numbers(out: &mut [u8], at: usize, numbers: &[u32]) -> usize
     requires { ⌜ at + 21 * length (now numbers) ≤ length (now out) ⌝ }
     ensures { λ r. ⌜ Added (numbersOf (now (numbers .entry))) (now (out .entry)) at (now (out .exit)) r ⌝ }
+    ensures { λ r. ⌜ r ≤ at + 21 * length (now (numbers .entry)) ⌝ }
 {
     let mut end = at;
     let mut i: usize = 0;
@@ -74,6 +76,7 @@ fn put_signed(out: &mut [u8], at: usize, n: i32) -> usize
 pub fn put_signeds(out: &mut [u8], at: usize, numbers: &[i32]) -> usize
     requires { ⌜ at + 22 * length (now numbers) ≤ length (now out) ⌝ }
     ensures { λ r. ⌜ Added (signedsOf (now (numbers .entry))) (now (out .entry)) at (now (out .exit)) r ⌝ }
+    ensures { λ r. ⌜ r ≤ at + 22 * length (now (numbers .entry)) ⌝ }
 {
     let mut end = at;
     let mut i: usize = 0;
@@ -97,6 +100,7 @@ fn put_hex(out: &mut [u8], at: usize, byte: u8) -> usize
 pub fn put_hexes(out: &mut [u8], at: usize, bytes: &[u8]) -> usize
     requires { ⌜ at + 2 * length (now bytes) ≤ length (now out) ⌝ }
     ensures { λ r. ⌜ Added (hexesOf (now (bytes .entry))) (now (out .entry)) at (now (out .exit)) r ⌝ }
+    ensures { λ r. ⌜ r ≤ at + 2 * length (now (bytes .entry)) ⌝ }
 {
     let mut end = at;
     let mut i: usize = 0;

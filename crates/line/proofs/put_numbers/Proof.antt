@@ -39,13 +39,13 @@ loop-less c = omega arith
 loop-again : tie.Need-loop-again Inv-loop μ-loop
 loop-again c =
     let l = c .before .before .before .before .before in
-    joining-more _ _ _ _ _ (l .before .loop .inv) (l .loop-test .taken) (length-next _) (search needs) (c .before .before .put-next .ensures)
+    joining-more _ _ _ _ _ (l .before .loop .inv) (l .loop-test .taken) (length-next _) (search needs) (c .before .before .put-next .ensures .0)
 
 same-length : tie.Need-same-length Inv-loop μ-loop
 same-length c = c .before .loop .inv .long
 
 returns : tie.Need-returns Inv-loop μ-loop
-returns c = joined-all _ _ _ _ _ (c .before .loop .inv) (c .loop-test .left)
+returns c = let i = c .before .loop .inv in (joined-all _ _ _ _ _ i (c .loop-test .left), omega (arith, i .short, i .upto))
 
 pub put-numbers-spec : {M : Type 1} → statement M
 put-numbers-spec =

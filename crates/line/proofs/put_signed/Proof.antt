@@ -25,7 +25,7 @@ returns c =
     let a = c .before .before .before in
     let b = a .before .before .before in
     let fit = b .before .before .fits .n in
-    added-same (signed-above (b .before .before .args .n) _ _ (rw (toZ-ofZ fit) at (a .above .ensures)) (rw (toZ-ofZ fit) at (b .below .ensures)) (a .before .before .if1 .taken)) (c .before .before .put-next .ensures)
+    added-same (signed-above (b .before .before .args .n) _ _ (rw (toZ-ofZ fit) at (a .above .ensures)) (rw (toZ-ofZ fit) at (b .below .ensures)) (a .before .before .if1 .taken)) (c .before .before .put-next .ensures .0)
 
 slice-aggregate-put : tie.Need-slice-aggregate-put
 slice-aggregate-put c = search needs
