@@ -1,7 +1,10 @@
 // Commands that make a call and write its answer. Each answers how many bytes of the stream it took, and 0 where it is bad.
 ghost use mathlib.Core.Path.{_≡_};
 ghost use Prim.Native.Nat.{_+_, _*_, _<_, _≤_};
-ghost use lib.ListN.{length};
+ghost use lib.ListN.{length, replicate};
+ghost use Rattle.rows.specs.Row.{headed};
+ghost use Rattle.trial.specs.Stream.{fourAt};
+ghost use Rattle.trial.specs.Lists.{Ordered};
 use crate::lines::answer_line;
 use crate::lines::branches_line;
 use crate::lines::dump;
@@ -10,6 +13,7 @@ use crate::spaces::Next;
 use crate::stream::four;
 use crate::stream::two;
 use crate::stream::wide;
+use rows::Answer;
 use rows::Outcome;
 
 fn run_screen(rest: &[u8], book: &[u8], bytes: usize, flow: &mut [i32], table: &mut [u8]) -> usize
@@ -128,8 +132,33 @@ pub fn run_write(
     }
 }
 
+// Where the four lists of `M` end among its readings.
+struct Lists {
+    first: usize,
+    second: usize,
+    third: usize,
+    fourth: usize,
+}
+
+fn lists_of(rest: &[u8]) -> Lists
+    requires { ⌜ 5 ≤ length (now rest) ⌝ }
+    ensures { λ r. ⌜ Ordered r ⌝ }
+{
+    let first = wide(rest[1]);
+    let second = first + wide(rest[2]);
+    let third = second + wide(rest[3]);
+    let fourth = third + wide(rest[4]);
+    Lists {
+        first,
+        second,
+        third,
+        fourth,
+    }
+}
+
 fn readings_of(rest: &[u8], count: usize) -> [u32; 1020]
     requires { ⌜ (count ≤ 1020) × (7 + 4 * count ≤ length (now rest)) ⌝ }
+    ensures { λ r. ⌜ r ≡ headed count (λ i. fourAt (now (rest .entry)) (7 + 4 * i)) (replicate 1020 0) ⌝ }
 {
     let mut readings = [0u32; 1020];
     for i in 0..count {
@@ -138,7 +167,26 @@ fn readings_of(rest: &[u8], count: usize) -> [u32; 1020]
     readings
 }
 
-// `M`: the four lists stand one after another.
+// The lists stand one after another.
+fn meter(rest: &[u8], lists: Lists, supply: usize, injections: &mut [i32]) -> Answer
+    requires { ⌜ Ordered lists × (7 + 4 * lists .fourth ≤ length (now rest)) ⌝ }
+{
+    let first = lists.first;
+    let second = lists.second;
+    let third = lists.third;
+    let fourth = lists.fourth;
+    let readings = readings_of(rest, fourth);
+    let all = &readings[..];
+    meters::injections(
+        &all[0..first],
+        &all[first..second],
+        &all[second..third],
+        &all[third..fourth],
+        supply,
+        injections,
+    )
+}
+
 fn run_meters(rest: &[u8], injections: &mut [i32]) -> usize
     requires { ⌜ length (now injections) ≤ 256 ⌝ }
     ensures { λ r. ⌜ r ≤ length (now (rest .entry)) ⌝ }
@@ -146,28 +194,17 @@ fn run_meters(rest: &[u8], injections: &mut [i32]) -> usize
     if rest.len() < 7 {
         return 0;
     }
-    let first = wide(rest[1]);
-    let second = first + wide(rest[2]);
-    let third = second + wide(rest[3]);
-    let fourth = third + wide(rest[4]);
+    let lists = lists_of(rest);
     let lent = wide(rest[5]);
-    let taken = 7 + 4 * fourth;
+    let taken = 7 + 4 * lists.fourth;
     if injections.len() < lent {
         return 0;
     }
     if rest.len() < taken {
         return 0;
     }
-    let readings = readings_of(rest, fourth);
-    let all = &readings[..];
-    let answer = meters::injections(
-        &all[0..first],
-        &all[first..second],
-        &all[second..third],
-        &all[third..fourth],
-        wide(rest[6]),
-        &mut injections[..lent],
-    );
+    let supply = wide(rest[6]);
+    let answer = meter(rest, lists, supply, &mut injections[..lent]);
     answer_line(b"meters", answer);
     signed_line(b"injections", injections);
     taken

@@ -1,19 +1,20 @@
 use borrow.Author.Needs.{needs}
 use native.Mathlib.Omega.{arith}
-use mathlib.Core.Path.{_≡_, refl}
-use Prim.Native.Nat.{_-_, _≤_}
-use lib.ListN.{length}
+use Prim.Native.Nat.{_-_}
+use Prim.Native.Nat.{_+_, _*_}
+use Rattle.book.proofs.Tables.{Filling, fill-start, fill-more, fill-end}
+use Rattle.trial.specs.Stream.{fourAt}
 use Rattle.trial.proofs.calls.readings_of.Statement.{statement}
 use Rattle.trial.proofs.calls.readings_of.Tie as tie
 
 abbrev Inv-loop : tie.InvT-loop
-Inv-loop rest count readings₀ i₀ readings i = (length readings ≡ 1020) × (i ≤ count)
+Inv-loop rest count readings₀ i₀ readings i = Filling (λ j. fourAt rest (7 + 4 * j)) count readings₀ readings i
 
 abbrev μ-loop : tie.MeasureT-loop
 μ-loop rest count readings₀ i₀ readings i = count - i
 
 loop-holds : tie.Need-loop-holds Inv-loop μ-loop
-loop-holds c = (refl, omega arith)
+loop-holds c = fill-start _ _ _
 
 mul-four : tie.Need-mul-four Inv-loop μ-loop
 mul-four c = omega arith
@@ -37,10 +38,12 @@ loop-less : tie.Need-loop-less Inv-loop μ-loop
 loop-less c = omega arith
 
 loop-again : tie.Need-loop-again Inv-loop μ-loop
-loop-again c = (search needs, omega arith)
+loop-again c =
+    let l = c .before in
+    fill-more _ _ _ _ _ _ (l .loop-test .taken) (l .before .before .before .pre .0) (l .before .loop .inv) (c .four .ensures)
 
 returns : tie.Need-returns Inv-loop μ-loop
-returns c = search needs
+returns c = fill-end _ _ _ _ _ (c .loop-test .left) (c .before .loop .inv)
 
 pub readings-of-spec : {M : Type 1} → statement M
 readings-of-spec =
