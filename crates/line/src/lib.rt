@@ -4,6 +4,10 @@ ghost use Prim.Native.Nat.{_+_, _*_, _≤_};
 ghost use lib.ListN.{length};
 ghost use Rattle.line.specs.Text.{Added, decimalOf, signedOf, hexOf, nextOf, numbersOf, signedsOf, hexesOf};
 
+mod answer;
+
+pub use answer::put_answer;
+
 fn put_byte(out: &mut [u8], at: usize, byte: u8) -> usize
     requires { ⌜ at + 1 ≤ length (now out) ⌝ }
     ensures { λ r. ⌜ Added (byte ∷ []) (now (out .entry)) at (now (out .exit)) r ⌝ }

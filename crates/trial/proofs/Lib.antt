@@ -1,3 +1,2 @@
-pub mod Group
 pub mod Moving
 pub mod Written

@@ -2,11 +2,11 @@ use borrow.Author.Needs.{needs}
 use native.Mathlib.Omega.{arith}
 use mathlib.Core.Path.{_∙_}
 use Prim.Native.Nat.{_-_}
 use Rattle.line.proofs.Adding.{Joining, joining-none}
-use Rattle.trial.proofs.Group.{flagText, flag-in, flag-out, group-added}
+use Rattle.line.proofs.Group.{flagText, flag-in, flag-out, group-added}
 use mathlib.Core.Logic.{⊎-elim}
-use Rattle.trial.proofs.lines.put_group.Statement.{statement}
-use Rattle.trial.proofs.lines.put_group.Tie as tie
+use Rattle.line.proofs.answer.put_group.Statement.{statement}
+use Rattle.line.proofs.answer.put_group.Tie as tie
 
 abbrev Inv-loop : tie.InvT-loop
 Inv-loop out₀ at flags end₀ i₀ out end i = Joining (flagText flags) 21 128 out₀ end₀ out end i

@@ -1,8 +1,8 @@
 use borrow.Author.Needs.{needs}
 use native.Mathlib.Omega.{arith}
 use Rattle.line.proofs.Adding.{added-then}
-use Rattle.trial.proofs.lines.put_answer.Statement.{statement}
-use Rattle.trial.proofs.lines.put_answer.Tie as tie
+use Rattle.line.proofs.answer.put_answer.Statement.{statement}
+use Rattle.line.proofs.answer.put_answer.Tie as tie
 
 put-requires : tie.Need-put-requires
 put-requires c κs = search needs

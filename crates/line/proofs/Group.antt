@@ -13,10 +13,10 @@ use Rattle.rows.specs.Bit.{has}
 use Rattle.rows.specs.Sum.{pick}
 use Rattle.listing.specs.declared.Members.{Members}
 use Rattle.listing.specs.Members.{Listed}
 use Rattle.line.specs.Text.{Added, nextOf, joined}
 use Rattle.line.proofs.Adding.{Joining, joining-more, joined-all, added-none, added-then, added-same}
 use Rattle.line.proofs.Digits.{length-next}
-use Rattle.trial.specs.Lines.{busText, groupText}
+use Rattle.line.specs.AnswerText.{busText, groupText}
 
 -- Bus i where its flag is 1.
 abbrev pub flagText : List ℕ → ℕ → List ℕ
