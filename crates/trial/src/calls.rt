@@ -4,7 +4,7 @@ ghost use Prim.Native.Nat.{_+_, _*_, _<_, _≤_};
 ghost use lib.ListN.{length, replicate};
 ghost use Rattle.rows.specs.Row.{headed};
 ghost use Rattle.trial.specs.Stream.{fourAt};
-ghost use Rattle.trial.specs.Lists.{Ordered};
+ghost use Rattle.trial.specs.Spaces.{Ordered, Sized};
 use crate::lines::answer_line;
 use crate::lines::branches_line;
 use crate::lines::dump;
@@ -214,14 +214,14 @@ fn run_meters(rest: &[u8], injections: &mut [i32]) -> usize
 pub fn run_call(
     rest: &[u8],
     letter: u8,
-    book: &mut [u8; 2100],
+    book: &mut [u8],
     bytes: usize,
-    flow: &mut [i32; 256],
-    table: &mut [u8; 13312],
-    injections: &mut [i32; 128],
-    branches: &mut [u32; 1280],
+    flow: &mut [i32],
+    table: &mut [u8],
+    injections: &mut [i32],
+    branches: &mut [u32],
 ) -> usize
-    requires { ⌜ (0 < length (now rest)) × (bytes ≤ 2100) ⌝ }
+    requires { ⌜ (0 < length (now rest)) × (bytes ≤ 2100) × Sized (length (now book)) (length (now flow)) (length (now table)) (length (now injections)) (length (now branches)) ⌝ }
     ensures { λ r. ⌜ r ≤ length (now (rest .entry)) ⌝ }
 {
     if letter == b'S' {
