@@ -1,6 +1,6 @@
 // Commands that make a call and write its answer. Each answers how many bytes of the stream it took, and 0 where it is bad.
 ghost use mathlib.Core.Path.{_≡_};
-ghost use Prim.Native.Nat.{_+_, _*_, _<_, _≤_};
+ghost use Prim.Native.Nat.{_+_, _*_, _<_, _≤_, max};
 ghost use lib.ListN.{length, replicate};
 ghost use Rattle.rows.specs.Row.{headed};
 ghost use Rattle.trial.specs.Stream.{fourAt};
@@ -85,7 +85,24 @@ fn run_read(
     5
 }
 
-// `W`: accepted, the book has the written length.
+// Writes a book of lent tables into lent bytes: accepted, the book has the written length.
+fn write(rest: &[u8], out: &mut [u8], bytes: usize, injections: &[i32], branches: &[u32]) -> usize
+    requires { ⌜ 13 ≤ length (now rest) ⌝ }
+    ensures { λ r. ⌜ r ≤ max bytes (length (now (out .entry))) ⌝ }
+{
+    let buses = two(rest, 1);
+    let count = two(rest, 3);
+    let factor = two(rest, 5) as u32;
+    let answer = book::write_book(buses, count, factor, injections, branches, out);
+    answer_line(b"write", answer);
+    let outcome = answer.outcome;
+    let Outcome::Accepted = outcome else {
+        return bytes;
+    };
+    layout::bytes_for(buses, count)
+}
+
+// `W`.
 pub fn run_write(
     rest: &[u8],
     book: &mut [u8],
@@ -99,8 +116,6 @@ pub fn run_write(
     if rest.len() < 13 {
         return Next { taken: 0, bytes };
     }
-    let buses = two(rest, 1);
-    let count = two(rest, 3);
     let a = two(rest, 7);
     let b = two(rest, 9);
     let c = two(rest, 11);
@@ -113,22 +128,16 @@ pub fn run_write(
     if book.len() < c {
         return Next { taken: 0, bytes };
     }
-    let answer = book::write_book(
-        buses,
-        count,
-        two(rest, 5) as u32,
+    let held = write(
+        rest,
+        &mut book[..c],
+        bytes,
         &injections[..a],
         &branches[..b],
-        &mut book[..c],
     );
-    answer_line(b"write", answer);
-    let outcome = answer.outcome;
-    let Outcome::Accepted = outcome else {
-        return Next { taken: 13, bytes };
-    };
     Next {
         taken: 13,
-        bytes: layout::bytes_for(buses, count),
+        bytes: held,
     }
 }
 

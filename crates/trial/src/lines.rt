@@ -1,6 +1,6 @@
-// The lines that the commands write: each is built whole and written at once.
+// The lines that the commands write: each is built whole, in bytes enough for its longest text and a newline, and written at once.
 ghost use mathlib.Core.Path.{_≡_};
-ghost use Prim.Native.Nat.{_+_, _<_, _≤_};
+ghost use Prim.Native.Nat.{_+_, _*_, _<_, _≤_};
 ghost use lib.ListN.{length};
 use libc::STDOUT_FILENO;
 use line::put;
@@ -47,7 +47,7 @@ pub fn branches_line(numbers: &[u32])
 
 // A word, a number, and bytes in hex.
 fn hex_line(out: &mut [u8], word: &[u8], number: usize, bytes: &[u8])
-    requires { ⌜ length (now word) + length (now bytes) + length (now bytes) + 23 ≤ length (now out) ⌝ }
+    requires { ⌜ length (now word) + 2 * length (now bytes) + 23 ≤ length (now out) ⌝ }
 {
     let after_word = put(out, 0, word);
     let after_number = put_next(out, after_word, number as u64);

@@ -2,7 +2,6 @@ use borrow.Author.Needs.{needs}
 use native.Mathlib.Omega.{arith}
 use mathlib.Core.Path.{sym}
 use lib.Seq.{length-take-le}
-use Rattle.trial.proofs.Written.{written}
 use Rattle.trial.proofs.calls.run_write.Statement.{statement}
 use Rattle.trial.proofs.calls.run_write.Tie as tie
 
@@ -18,12 +17,6 @@ two-requires-2 c κs = search needs
 two-requires-3 : tie.Need-two-requires-3
 two-requires-3 c κs = search needs
 
-two-requires-4 : tie.Need-two-requires-4
-two-requires-4 c κs = search needs
-
-two-requires-5 : tie.Need-two-requires-5
-two-requires-5 c κs = search needs
-
 returns-2 : tie.Need-returns-2
 returns-2 c = search needs
 
@@ -33,52 +26,30 @@ returns-3 c = search needs
 returns-4 : tie.Need-returns-4
 returns-4 c = search needs
 
-two-requires-6 : tie.Need-two-requires-6
-two-requires-6 c κs = search needs
+slice-relend-prefix-write : tie.Need-slice-relend-prefix-write
+slice-relend-prefix-write c = search needs
 
-cast-write-book : tie.Need-cast-write-book
-cast-write-book c = search needs
+slice-aggregate-write : tie.Need-slice-aggregate-write
+slice-aggregate-write c = sym (length-take-le _ _ (omega arith))
 
-slice-aggregate-write-book : tie.Need-slice-aggregate-write-book
-slice-aggregate-write-book c = sym (length-take-le _ _ (omega arith))
+slice-aggregate-write-2 : tie.Need-slice-aggregate-write-2
+slice-aggregate-write-2 c = sym (length-take-le _ _ (omega arith))
 
-slice-aggregate-write-book-2 : tie.Need-slice-aggregate-write-book-2
-slice-aggregate-write-book-2 c = sym (length-take-le _ _ (omega arith))
+slice-aggregate-write-3 : tie.Need-slice-aggregate-write-3
+slice-aggregate-write-3 c = sym (length-take-le _ _ (omega arith))
 
-slice-relend-prefix-write-book : tie.Need-slice-relend-prefix-write-book
-slice-relend-prefix-write-book c = search needs
-
-slice-aggregate-write-book-3 : tie.Need-slice-aggregate-write-book-3
-slice-aggregate-write-book-3 c = sym (length-take-le _ _ (omega arith))
-
-write-book-requires : tie.Need-write-book-requires
-write-book-requires c κs = search needs
-
-slice-aggregate-answer-line : tie.Need-slice-aggregate-answer-line
-slice-aggregate-answer-line c = search needs
-
-answer-line-requires : tie.Need-answer-line-requires
-answer-line-requires c κs = search needs
-
-enum-told : tie.Need-enum-told
-enum-told c = search needs
+write-requires : tie.Need-write-requires
+write-requires c κs = search needs
 
 same-length : tie.Need-same-length
 same-length c = search needs
 
 returns-5 : tie.Need-returns-5
-returns-5 c = search needs
-
-bytes-for-requires : tie.Need-bytes-for-requires
-bytes-for-requires c κs = let w = written (c .before .before .before .before .before .before .write-book .ensures) (c .enum-told .given .1) in (omega (arith, w .range .few-buses), omega (arith, w .range .few-branches))
-
-same-length-2 : tie.Need-same-length-2
-same-length-2 c = search needs
-
-returns-6 : tie.Need-returns-6
-returns-6 c =
-    let l = length-take-le (c .before .before .before .before .before .before .before .before .before .before .before .before .before .before .before .two5 .result) (c .before .before .before .before .before .before .before .before .before .before .before .before .before .before .before .before .before .before .before .before .before .before .before .before .args .book .now) (c .before .before .before .before .before .before .before .before .before .before .before .before .if4 .left) in
-    (omega (arith, c .before .before .before .before .before .before .before .before .before .before .before .before .before .before .before .before .before .before .before .before .if1 .left), omega (arith, written (c .before .before .before .before .before .before .before .write-book .ensures) (c .before .enum-told .given .1) .fits, c .bytes-for .ensures, l, c .before .before .before .before .before .before .before .before .before .before .before .before .if4 .left))
+returns-5 c =
+    let four = c .before .before .before .before .before .before in
+    let start = four .before .before .before .before .before .before .before .before .before .before in
+    let part = length-take-le (four .before .before .before .two3 .result) (start .args .book .now) (four .if4 .left) in
+    (omega (arith, four .before .before .before .before .before .before .if1 .left), omega (arith, c .before .before .write .ensures, part, four .if4 .left, start .pre))
 
 pub run-write-spec : {M : Type 1} → statement M
 run-write-spec =
@@ -88,23 +59,13 @@ run-write-spec =
     two-requires
     two-requires-2
     two-requires-3
-    two-requires-4
-    two-requires-5
     returns-2
     returns-3
     returns-4
-    two-requires-6
-    cast-write-book
-    slice-aggregate-write-book
-    slice-aggregate-write-book-2
-    slice-relend-prefix-write-book
-    slice-aggregate-write-book-3
-    write-book-requires
-    slice-aggregate-answer-line
-    answer-line-requires
-    enum-told
+    slice-relend-prefix-write
+    slice-aggregate-write
+    slice-aggregate-write-2
+    slice-aggregate-write-3
+    write-requires
     same-length
-    returns-5
-    bytes-for-requires
-    same-length-2
-    returns-6)
+    returns-5)
