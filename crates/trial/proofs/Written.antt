@@ -1,0 +1,13 @@
+-- What an accepted write says of the length that it wrote.
+use mathlib.Core.Path.{_≡_, sym, ap, _∙_}
+use mathlib.Core.List.{List}
+use Prim.Native.Nat.{ℕ}
+use lib.IntN.{ℤ}
+use lib.ListN.{length}
+use Rattle.rows.specs.declared.Outcome.the-variants.{Accepted}
+use Rattle.rows.specs.declared.Answer.{Answer}
+use Rattle.pack.specs.Write.{BookWritten}
+use Rattle.pack.proofs.Writing.{Writable, write-accepted}
+
+pub written : {n m factor : ℕ} {inj : List ℤ} {bra out out′ : List ℕ} {r : Answer} → BookWritten n m factor inj bra out out′ r → r .outcome ≡ Accepted → Writable n m factor inj bra (length out)
+written {n} {m} {factor} {inj} {bra} {out} w a = write-accepted n m factor inj bra (length out) (sym (ap (λ (x : Answer). x .outcome) (w .answer)) ∙ a)

@@ -1,0 +1,87 @@
+use borrow.Author.Needs.{needs}
+use native.Mathlib.Omega.{arith}
+use mathlib.Core.Path.{sym}
+use lib.Seq.{length-take-le}
+use Rattle.trial.proofs.calls.run_out.Statement.{statement}
+use Rattle.trial.proofs.calls.run_out.Tie as tie
+
+returns : tie.Need-returns
+returns c = search needs
+
+two-requires : tie.Need-two-requires
+two-requires c κs = search needs
+
+two-requires-2 : tie.Need-two-requires-2
+two-requires-2 c κs = search needs
+
+returns-2 : tie.Need-returns-2
+returns-2 c = search needs
+
+returns-3 : tie.Need-returns-3
+returns-3 c = search needs
+
+two-requires-3 : tie.Need-two-requires-3
+two-requires-3 c κs = search needs
+
+slice-relend-prefix-take-out : tie.Need-slice-relend-prefix-take-out
+slice-relend-prefix-take-out c = search needs
+
+slice-aggregate-take-out : tie.Need-slice-aggregate-take-out
+slice-aggregate-take-out c = sym (length-take-le _ _ (omega arith))
+
+slice-relend-prefix-take-out-2 : tie.Need-slice-relend-prefix-take-out-2
+slice-relend-prefix-take-out-2 c = search needs
+
+slice-aggregate-take-out-2 : tie.Need-slice-aggregate-take-out-2
+slice-aggregate-take-out-2 c = sym (length-take-le _ _ (omega arith))
+
+slice-relend-prefix-take-out-3 : tie.Need-slice-relend-prefix-take-out-3
+slice-relend-prefix-take-out-3 c = search needs
+
+slice-aggregate-take-out-3 : tie.Need-slice-aggregate-take-out-3
+slice-aggregate-take-out-3 c = sym (length-take-le _ _ (omega arith))
+
+take-out-requires : tie.Need-take-out-requires
+take-out-requires c κs = search needs
+
+slice-aggregate-answer-line : tie.Need-slice-aggregate-answer-line
+slice-aggregate-answer-line c = search needs
+
+answer-line-requires : tie.Need-answer-line-requires
+answer-line-requires c κs = search needs
+
+same-length : tie.Need-same-length
+same-length c = search needs
+
+same-length-2 : tie.Need-same-length-2
+same-length-2 c = search needs
+
+same-length-3 : tie.Need-same-length-3
+same-length-3 c = search needs
+
+returns-4 : tie.Need-returns-4
+returns-4 c = search needs
+
+pub run-out-spec : {M : Type 1} → statement M
+run-out-spec =
+    tie.close
+    (tie.spec
+    returns
+    two-requires
+    two-requires-2
+    returns-2
+    returns-3
+    two-requires-3
+    slice-relend-prefix-take-out
+    slice-aggregate-take-out
+    slice-relend-prefix-take-out-2
+    slice-aggregate-take-out-2
+    slice-relend-prefix-take-out-3
+    slice-aggregate-take-out-3
+    take-out-requires
+    slice-aggregate-answer-line
+    answer-line-requires
+    same-length
+    same-length-2
+    same-length-3
+    returns-4)

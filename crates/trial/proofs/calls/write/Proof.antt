@@ -1,0 +1,62 @@
+use borrow.Author.Needs.{needs}
+use native.Mathlib.Omega.{arith}
+use Rattle.trial.proofs.Written.{written}
+use Rattle.trial.proofs.calls.write.Statement.{statement}
+use Rattle.trial.proofs.calls.write.Tie as tie
+
+two-requires : tie.Need-two-requires
+two-requires c κs = search needs
+
+two-requires-2 : tie.Need-two-requires-2
+two-requires-2 c κs = search needs
+
+two-requires-3 : tie.Need-two-requires-3
+two-requires-3 c κs = search needs
+
+cast-factor : tie.Need-cast-factor
+cast-factor c = search needs
+
+write-book-requires : tie.Need-write-book-requires
+write-book-requires c κs = search needs
+
+slice-aggregate-answer-line : tie.Need-slice-aggregate-answer-line
+slice-aggregate-answer-line c = search needs
+
+answer-line-requires : tie.Need-answer-line-requires
+answer-line-requires c κs = search needs
+
+enum-told : tie.Need-enum-told
+enum-told c = search needs
+
+same-length : tie.Need-same-length
+same-length c = search needs
+
+returns : tie.Need-returns
+returns c = search needs
+
+bytes-for-requires : tie.Need-bytes-for-requires
+bytes-for-requires c κs = let w = written (c .before .before .before .before .before .before .write-book .ensures) (c .enum-told .given .1) in (omega (arith, w .range .few-buses), omega (arith, w .range .few-branches))
+
+same-length-2 : tie.Need-same-length-2
+same-length-2 c = search needs
+
+returns-2 : tie.Need-returns-2
+returns-2 c = let w = written (c .before .before .before .before .before .before .before .write-book .ensures) (c .before .enum-told .given .1) in omega (arith, w .fits, c .bytes-for .ensures)
+
+pub write-spec : {M : Type 1} → statement M
+write-spec =
+    tie.close
+    (tie.spec
+    two-requires
+    two-requires-2
+    two-requires-3
+    cast-factor
+    write-book-requires
+    slice-aggregate-answer-line
+    answer-line-requires
+    enum-told
+    same-length
+    returns
+    bytes-for-requires
+    same-length-2
+    returns-2)

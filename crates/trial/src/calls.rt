@@ -1,0 +1,253 @@
+// Commands that make a call and write its answer. Each answers how many bytes of the stream it took, and 0 where it is bad.
+ghost use mathlib.Core.Path.{_≡_};
+ghost use Prim.Native.Nat.{_+_, _*_, _<_, _≤_, max};
+ghost use lib.ListN.{length, replicate};
+ghost use Rattle.rows.specs.Row.{headed};
+ghost use Rattle.trial.specs.Stream.{fourAt};
+ghost use Rattle.trial.specs.Spaces.{Ordered, Sized};
+use crate::lines::answer_line;
+use crate::lines::branches_line;
+use crate::lines::dump;
+use crate::lines::signed_line;
+use crate::spaces::Next;
+use crate::stream::four;
+use crate::stream::two;
+use crate::stream::wide;
+use rows::Answer;
+use rows::Outcome;
+
+fn run_screen(rest: &[u8], book: &[u8], bytes: usize, flow: &mut [i32], table: &mut [u8]) -> usize
+    requires { ⌜ bytes ≤ length (now book) ⌝ }
+    ensures { λ r. ⌜ r ≤ length (now (rest .entry)) ⌝ }
+{
+    if rest.len() < 5 {
+        return 0;
+    }
+    let a = two(rest, 1);
+    let b = two(rest, 3);
+    if flow.len() < a {
+        return 0;
+    }
+    if table.len() < b {
+        return 0;
+    }
+    let answer = screen::screen(&book[..bytes], &mut flow[..a], &mut table[..b]);
+    answer_line(b"screen", answer);
+    5
+}
+
+fn run_out(rest: &[u8], book: &mut [u8], bytes: usize, flow: &mut [i32], table: &mut [u8]) -> usize
+    requires { ⌜ bytes ≤ length (now book) ⌝ }
+    ensures { λ r. ⌜ r ≤ length (now (rest .entry)) ⌝ }
+{
+    if rest.len() < 7 {
+        return 0;
+    }
+    let a = two(rest, 1);
+    let b = two(rest, 3);
+    if flow.len() < a {
+        return 0;
+    }
+    if table.len() < b {
+        return 0;
+    }
+    let branch = two(rest, 5);
+    let answer = outage::take_out(&mut book[..bytes], &mut flow[..a], &mut table[..b], branch);
+    answer_line(b"out", answer);
+    7
+}
+
+fn run_read(
+    rest: &[u8],
+    book: &[u8],
+    bytes: usize,
+    injections: &mut [i32],
+    branches: &mut [u32],
+) -> usize
+    requires { ⌜ (bytes ≤ length (now book)) × (length (now injections) ≤ 256) × (length (now branches) ≤ 1280) ⌝ }
+    ensures { λ r. ⌜ r ≤ length (now (rest .entry)) ⌝ }
+{
+    if rest.len() < 5 {
+        return 0;
+    }
+    let a = two(rest, 1);
+    let b = two(rest, 3);
+    if injections.len() < a {
+        return 0;
+    }
+    if branches.len() < b {
+        return 0;
+    }
+    let answer = book::read_book(&book[..bytes], &mut injections[..a], &mut branches[..b]);
+    answer_line(b"read", answer);
+    signed_line(b"injections", injections);
+    branches_line(branches);
+    5
+}
+
+// Writes a book of lent tables into lent bytes: accepted, the book has the written length.
+fn write(rest: &[u8], out: &mut [u8], bytes: usize, injections: &[i32], branches: &[u32]) -> usize
+    requires { ⌜ 13 ≤ length (now rest) ⌝ }
+    ensures { λ r. ⌜ r ≤ max bytes (length (now (out .entry))) ⌝ }
+{
+    let buses = two(rest, 1);
+    let count = two(rest, 3);
+    let factor = two(rest, 5) as u32;
+    let answer = book::write_book(buses, count, factor, injections, branches, out);
+    answer_line(b"write", answer);
+    let outcome = answer.outcome;
+    let Outcome::Accepted = outcome else {
+        return bytes;
+    };
+    layout::bytes_for(buses, count)
+}
+
+// `W`.
+pub fn run_write(
+    rest: &[u8],
+    book: &mut [u8],
+    bytes: usize,
+    injections: &[i32],
+    branches: &[u32],
+) -> Next
+    requires { ⌜ bytes ≤ length (now book) ⌝ }
+    ensures { λ r. ⌜ (r .taken ≤ length (now (rest .entry))) × (r .bytes ≤ length (now (book .entry))) ⌝ }
+{
+    if rest.len() < 13 {
+        return Next { taken: 0, bytes };
+    }
+    let a = two(rest, 7);
+    let b = two(rest, 9);
+    let c = two(rest, 11);
+    if injections.len() < a {
+        return Next { taken: 0, bytes };
+    }
+    if branches.len() < b {
+        return Next { taken: 0, bytes };
+    }
+    if book.len() < c {
+        return Next { taken: 0, bytes };
+    }
+    let held = write(
+        rest,
+        &mut book[..c],
+        bytes,
+        &injections[..a],
+        &branches[..b],
+    );
+    Next {
+        taken: 13,
+        bytes: held,
+    }
+}
+
+// Where the four lists of `M` end among its readings.
+struct Lists {
+    first: usize,
+    second: usize,
+    third: usize,
+    fourth: usize,
+}
+
+fn lists_of(rest: &[u8]) -> Lists
+    requires { ⌜ 5 ≤ length (now rest) ⌝ }
+    ensures { λ r. ⌜ Ordered r ⌝ }
+{
+    let first = wide(rest[1]);
+    let second = first + wide(rest[2]);
+    let third = second + wide(rest[3]);
+    let fourth = third + wide(rest[4]);
+    Lists {
+        first,
+        second,
+        third,
+        fourth,
+    }
+}
+
+fn readings_of(rest: &[u8], count: usize) -> [u32; 1020]
+    requires { ⌜ (count ≤ 1020) × (7 + 4 * count ≤ length (now rest)) ⌝ }
+    ensures { λ r. ⌜ r ≡ headed count (λ i. fourAt (now (rest .entry)) (7 + 4 * i)) (replicate 1020 0) ⌝ }
+{
+    let mut readings = [0u32; 1020];
+    for i in 0..count {
+        readings[i] = four(rest, 7 + 4 * i);
+    }
+    readings
+}
+
+// The lists stand one after another.
+fn meter(rest: &[u8], lists: Lists, supply: usize, injections: &mut [i32]) -> Answer
+    requires { ⌜ Ordered lists × (7 + 4 * lists .fourth ≤ length (now rest)) ⌝ }
+{
+    let first = lists.first;
+    let second = lists.second;
+    let third = lists.third;
+    let fourth = lists.fourth;
+    let readings = readings_of(rest, fourth);
+    let all = &readings[..];
+    meters::injections(
+        &all[0..first],
+        &all[first..second],
+        &all[second..third],
+        &all[third..fourth],
+        supply,
+        injections,
+    )
+}
+
+fn run_meters(rest: &[u8], injections: &mut [i32]) -> usize
+    requires { ⌜ length (now injections) ≤ 256 ⌝ }
+    ensures { λ r. ⌜ r ≤ length (now (rest .entry)) ⌝ }
+{
+    if rest.len() < 7 {
+        return 0;
+    }
+    let lists = lists_of(rest);
+    let lent = wide(rest[5]);
+    let taken = 7 + 4 * lists.fourth;
+    if injections.len() < lent {
+        return 0;
+    }
+    if rest.len() < taken {
+        return 0;
+    }
+    let supply = wide(rest[6]);
+    let answer = meter(rest, lists, supply, &mut injections[..lent]);
+    answer_line(b"meters", answer);
+    signed_line(b"injections", injections);
+    taken
+}
+
+// `S`, `O`, `R`, `M` and `D`.
+pub fn run_call(
+    rest: &[u8],
+    letter: u8,
+    book: &mut [u8],
+    bytes: usize,
+    flow: &mut [i32],
+    table: &mut [u8],
+    injections: &mut [i32],
+    branches: &mut [u32],
+) -> usize
+    requires { ⌜ (0 < length (now rest)) × (bytes ≤ 2100) × Sized (length (now book)) (length (now flow)) (length (now table)) (length (now injections)) (length (now branches)) ⌝ }
+    ensures { λ r. ⌜ r ≤ length (now (rest .entry)) ⌝ }
+{
+    if letter == b'S' {
+        return run_screen(rest, book, bytes, flow, table);
+    }
+    if letter == b'O' {
+        return run_out(rest, book, bytes, flow, table);
+    }
+    if letter == b'R' {
+        return run_read(rest, book, bytes, injections, branches);
+    }
+    if letter == b'M' {
+        return run_meters(rest, injections);
+    }
+    if letter == b'D' {
+        dump(book, bytes, flow, table);
+        return 1;
+    }
+    0
+}

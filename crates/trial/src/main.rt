@@ -1,0 +1,125 @@
+// Runs calls from a stream on standard input and writes what they answer: docs/TRIAL.md has the table of its commands.
+ghost use Prim.Native.Nat.{_<_, _≤_};
+ghost use lib.ListN.{length};
+ghost use Rattle.trial.specs.Stream.{Refilled};
+
+mod calls;
+mod lines;
+mod spaces;
+mod stream;
+
+use calls::run_call;
+use calls::run_write;
+use libc::STDIN_FILENO;
+use libc::STDOUT_FILENO;
+use spaces::Next;
+use spaces::set_book;
+use spaces::set_place;
+use spaces::spoil;
+
+// What is left of the input, moved to its front, and more after it: how many bytes there are then.
+fn refill(input: &mut [u8], at: usize, end: usize) -> usize
+    requires { ⌜ (at ≤ end) × (end ≤ length (now input)) ⌝ }
+    ensures { λ r. ⌜ Refilled (now (input .entry)) at end (now (input .exit)) 0 r ⌝ }
+{
+    let kept = end - at;
+    let mut i: usize = 0;
+    while i < kept {
+        input[i] = input[at + i];
+        i += 1;
+    }
+    kept + io::read_full(STDIN_FILENO, &mut input[kept..])
+}
+
+// Where the rest of the stream stands in the input.
+struct Window {
+    at: usize,
+    end: usize,
+}
+
+// No command is longer than 4,087 bytes, so with 4,096 left there is no need to read on.
+fn ready(input: &mut [u8], at: usize, end: usize) -> Window
+    requires { ⌜ (at ≤ end) × (end ≤ length (now input)) ⌝ }
+    ensures { λ r. ⌜ Refilled (now (input .entry)) at end (now (input .exit)) (r .at) (r .end) ⌝ }
+{
+    if 4096 <= end - at {
+        return Window { at, end };
+    }
+    Window {
+        at: 0,
+        end: refill(input, at, end),
+    }
+}
+
+// One command, at the start of the rest of the stream.
+fn run(
+    rest: &[u8],
+    book: &mut [u8; 2100],
+    bytes: usize,
+    flow: &mut [i32; 256],
+    table: &mut [u8; 13312],
+    injections: &mut [i32; 128],
+    branches: &mut [u32; 1280],
+) -> Next
+    requires { ⌜ (0 < length (now rest)) × (bytes ≤ 2100) ⌝ }
+    ensures { λ r. ⌜ (r .taken ≤ length (now (rest .entry))) × (r .bytes ≤ 2100) ⌝ }
+{
+    let letter = rest[0];
+    if letter == b'P' {
+        spoil(book, flow, table, injections, branches);
+        return Next { taken: 1, bytes: 0 };
+    }
+    if letter == b'B' {
+        return set_book(rest, book, bytes);
+    }
+    if letter == b'W' {
+        return run_write(rest, book, bytes, injections, branches);
+    }
+    let placed = set_place(rest, letter, flow, table, injections, branches);
+    if 0 < placed {
+        return Next {
+            taken: placed,
+            bytes,
+        };
+    }
+    let taken = run_call(rest, letter, book, bytes, flow, table, injections, branches);
+    Next { taken, bytes }
+}
+
+// A proved loop has to end, and nothing says that a stream does: the turns are more than any stream has commands.
+fn main() {
+    let mut input = [0u8; 65536];
+    let mut book = [0u8; 2100];
+    let mut flow = [0i32; 256];
+    let mut table = [0u8; 13312];
+    let mut injections = [0i32; 128];
+    let mut branches = [0u32; 1280];
+    let mut bytes: usize = 0;
+    let mut at: usize = 0;
+    let mut end: usize = 0;
+    let mut turns = u64::MAX;
+    while turns > 0 {
+        let window = ready(&mut input, at, end);
+        at = window.at;
+        end = window.end;
+        if at == end {
+            return;
+        }
+        let next = run(
+            &input[at..end],
+            &mut book,
+            bytes,
+            &mut flow,
+            &mut table,
+            &mut injections,
+            &mut branches,
+        );
+        if next.taken == 0 {
+            io::write_all(STDOUT_FILENO, b"bad command\n");
+            return;
+        }
+        at += next.taken;
+        bytes = next.bytes;
+        turns -= 1;
+    }
+}

@@ -1,0 +1,119 @@
+// Commands that only set the spaces. Each answers how many bytes of the stream it took, and 0 where it is bad.
+ghost use mathlib.Core.Path.{_≡_};
+ghost use Prim.Native.Nat.{_<_, _≤_};
+ghost use lib.ListN.{length};
+use crate::stream::four;
+use crate::stream::signed;
+use crate::stream::two;
+
+// What a command took, and the bytes that the book then has.
+pub struct Next {
+    pub taken: usize,
+    pub bytes: usize,
+}
+
+// Numbers that no call leaves by itself, so that what it does not write is seen.
+pub fn spoil(
+    book: &mut [u8; 2100],
+    flow: &mut [i32; 256],
+    table: &mut [u8; 13312],
+    injections: &mut [i32; 128],
+    branches: &mut [u32; 1280],
+) {
+    *book = [170u8; 2100];
+    *flow = [7777777i32; 256];
+    *table = [170u8; 13312];
+    *injections = [7777777i32; 128];
+    *branches = [7777777u32; 1280];
+}
+
+pub fn set_book(rest: &[u8], book: &mut [u8], bytes: usize) -> Next
+    requires { ⌜ bytes ≤ length (now book) ⌝ }
+    ensures { λ r. ⌜ (r .taken ≤ length (now (rest .entry))) × (r .bytes ≤ length (now (book .entry))) ⌝ }
+{
+    if rest.len() < 3 {
+        return Next { taken: 0, bytes };
+    }
+    let count = two(rest, 1);
+    if book.len() < count {
+        return Next { taken: 0, bytes };
+    }
+    if rest.len() < 3 + count {
+        return Next { taken: 0, bytes };
+    }
+    for i in 0..count {
+        book[i] = rest[3 + i];
+    }
+    Next {
+        taken: 3 + count,
+        bytes: count,
+    }
+}
+
+fn set_signed(rest: &[u8], space: &mut [i32]) -> usize
+    ensures { λ r. ⌜ r ≤ length (now (rest .entry)) ⌝ }
+{
+    if rest.len() < 7 {
+        return 0;
+    }
+    let k = two(rest, 1);
+    if space.len() <= k {
+        return 0;
+    }
+    space[k] = signed(four(rest, 3));
+    7
+}
+
+fn set_number(rest: &[u8], space: &mut [u32]) -> usize
+    ensures { λ r. ⌜ r ≤ length (now (rest .entry)) ⌝ }
+{
+    if rest.len() < 7 {
+        return 0;
+    }
+    let k = two(rest, 1);
+    if space.len() <= k {
+        return 0;
+    }
+    space[k] = four(rest, 3);
+    7
+}
+
+fn set_byte(rest: &[u8], space: &mut [u8]) -> usize
+    ensures { λ r. ⌜ r ≤ length (now (rest .entry)) ⌝ }
+{
+    if rest.len() < 4 {
+        return 0;
+    }
+    let k = two(rest, 1);
+    if space.len() <= k {
+        return 0;
+    }
+    space[k] = rest[3];
+    4
+}
+
+// `F`, `T`, `I` and `N`.
+pub fn set_place(
+    rest: &[u8],
+    letter: u8,
+    flow: &mut [i32],
+    table: &mut [u8],
+    injections: &mut [i32],
+    branches: &mut [u32],
+) -> usize
+    ensures { λ r. ⌜ r ≤ length (now (rest .entry)) ⌝ }
+{
+    if letter == b'F' {
+        return set_signed(rest, flow);
+    }
+    if letter == b'T' {
+        return set_byte(rest, table);
+    }
+    if letter == b'I' {
+        return set_signed(rest, injections);
+    }
+    if letter == b'N' {
+        return set_number(rest, branches);
+    }
+    0
+}
