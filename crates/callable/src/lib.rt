@@ -1,29 +1,8 @@
 // The screen and the outage call under C's calling convention, for programs in other languages to link.
 // A slice is a pointer and a length; the answer comes back as its number, its shortage and its group.
-ghost use mathlib.Core.Path.{_≡_};
-ghost use Rattle.rows.specs.Answer.{numberOf, shortageOf};
 ghost use Rattle.callable.specs.Promise.{ScreenSays, TakeSays};
-use rows::Outcome;
-
-fn number_of(outcome: Outcome) -> u8
-    ensures { λ r. ⌜ r ≡ numberOf outcome ⌝ }
-{
-    match outcome {
-        Outcome::Accepted => 0,
-        Outcome::Refused(why) => why.number,
-        Outcome::Overloaded(_) => 12,
-    }
-}
-
-fn shortage_of(outcome: Outcome) -> u32
-    ensures { λ r. ⌜ r ≡ shortageOf outcome ⌝ }
-{
-    match outcome {
-        Outcome::Accepted => 0,
-        Outcome::Refused(_) => 0,
-        Outcome::Overloaded(kw) => kw,
-    }
-}
+use rows::number_of;
+use rows::shortage_of;
 
 #[no_mangle]
 pub extern "C" fn callable_screen(

@@ -1,35 +1,14 @@
 // The text of an answer, added to a line.
 ghost use mathlib.Core.List.{_++_};
-ghost use mathlib.Core.Path.{_≡_};
 ghost use Prim.Native.Nat.{_+_, _≤_};
 ghost use lib.ListN.{length};
-ghost use Rattle.rows.specs.Answer.{numberOf, shortageOf};
 ghost use Rattle.line.specs.Text.{Added};
 ghost use Rattle.line.specs.AnswerText.{groupText, answerText};
 use crate::put;
 use crate::put_next;
 use rows::Answer;
-use rows::Outcome;
-
-fn number_of(outcome: Outcome) -> u8
-    ensures { λ r. ⌜ r ≡ numberOf outcome ⌝ }
-{
-    match outcome {
-        Outcome::Accepted => 0,
-        Outcome::Refused(why) => why.number,
-        Outcome::Overloaded(_) => 12,
-    }
-}
-
-fn shortage_of(outcome: Outcome) -> u32
-    ensures { λ r. ⌜ r ≡ shortageOf outcome ⌝ }
-{
-    match outcome {
-        Outcome::Accepted => 0,
-        Outcome::Refused(_) => 0,
-        Outcome::Overloaded(kw) => kw,
-    }
-}
+use rows::number_of;
+use rows::shortage_of;
 
 // The number of buses in the group, and these in rising order.
 fn put_group(out: &mut [u8], at: usize, group: [u8; 16]) -> usize

@@ -1,12 +1,16 @@
 -- Rows: a list read by place, its first places filled, a part in its middle replaced; tests over the first places.
 use mathlib.Core.Bool.{Bool, true, false, _&&_, _||_}
 use mathlib.Core.List.{List, [], _∷_, _++_}
-use Prim.Native.Nat.{ℕ, zero, suc}
+use Prim.Native.Nat.{ℕ, zero, suc, _+_, _*_}
 use lib.ListN.{getD, take, drop}
 
 -- The number at place k, and 0 past the end.
 abbrev pub nth : List ℕ → ℕ → ℕ
 nth l k = getD l k 0
+
+-- The number of the two bytes from `at` on, the high byte first.
+abbrev pub twoAt : List ℕ → ℕ → ℕ
+twoAt row at = nth row at * 256 + nth row (at + 1)
 
 -- f 0, f 1, .., f (n - 1).
 unfoldable pub upTo : {A : Type 0} → ℕ → (ℕ → A) → List A

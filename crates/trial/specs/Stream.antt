@@ -6,10 +6,7 @@ use lib.Dec.{ltb}
 use mathlib.Core.Path.{_≡_}
 use lib.ListN.{length, take, drop}
 use lib.IntN.{ℤ, pos, negsuc}
-use Rattle.rows.specs.Row.{nth}
-
-abbrev pub twoAt : List ℕ → ℕ → ℕ
-twoAt rest at = nth rest at * 256 + nth rest (at + 1)
+use Rattle.rows.specs.Row.{twoAt}
 
 abbrev pub fourAt : List ℕ → ℕ → ℕ
 fourAt rest at = twoAt rest at * 65536 + twoAt rest (at + 2)

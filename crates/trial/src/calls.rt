@@ -11,10 +11,10 @@ use crate::lines::dump;
 use crate::lines::signed_line;
 use crate::spaces::Next;
 use crate::stream::four;
-use crate::stream::two;
-use crate::stream::wide;
 use rows::Answer;
 use rows::Outcome;
+use rows::two;
+use rows::wide;
 
 fn run_screen(rest: &[u8], book: &[u8], bytes: usize, flow: &mut [i32], table: &mut [u8]) -> usize
     requires { ⌜ bytes ≤ length (now book) ⌝ }

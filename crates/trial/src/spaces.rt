@@ -4,7 +4,7 @@ ghost use Prim.Native.Nat.{_<_, _≤_};
 ghost use lib.ListN.{length};
 use crate::stream::four;
 use crate::stream::signed;
-use crate::stream::two;
+use rows::two;
 
 // What a command took, and the bytes that the book then has.
 pub struct Next {

@@ -2,20 +2,8 @@
 ghost use mathlib.Core.Path.{_≡_};
 ghost use Prim.Native.Nat.{_+_, _≤_, _<_};
 ghost use lib.ListN.{length};
-ghost use Rattle.trial.specs.Stream.{twoAt, fourAt, signedFrom};
-
-pub fn wide(byte: u8) -> usize
-    ensures { λ r. ⌜ (r ≡ byte) × (r < 256) ⌝ }
-{
-    byte as usize
-}
-
-pub fn two(rest: &[u8], at: usize) -> usize
-    requires { ⌜ at + 2 ≤ length (now rest) ⌝ }
-    ensures { λ r. ⌜ (r ≡ twoAt (now (rest .entry)) at) × (r < 65536) ⌝ }
-{
-    wide(rest[at]) * 256 + wide(rest[at + 1])
-}
+ghost use Rattle.trial.specs.Stream.{fourAt, signedFrom};
+use rows::two;
 
 pub fn four(rest: &[u8], at: usize) -> u32
     requires { ⌜ at + 4 ≤ length (now rest) ⌝ }
