@@ -2,6 +2,9 @@
 ghost use mathlib.Core.Path.{_≡_};
 ghost use Prim.Native.Nat.{_<_, _≤_};
 ghost use lib.ListN.{length};
+ghost use Rattle.rows.specs.Row.{nth};
+ghost use Rattle.trial.specs.Stream.{fourAt, signedFrom};
+ghost use Rattle.trial.specs.Spaces.{PlaceSet};
 use crate::stream::four;
 use crate::stream::signed;
 use rows::two;
@@ -51,6 +54,7 @@ pub fn set_book(rest: &[u8], book: &mut [u8], bytes: usize) -> Next
 }
 
 fn set_signed(rest: &[u8], space: &mut [i32]) -> usize
+    ensures { λ r. ⌜ PlaceSet 7 (signedFrom (fourAt (now (rest .entry)) 3)) (now (rest .entry)) (now (space .entry)) (now (space .exit)) r ⌝ }
     ensures { λ r. ⌜ r ≤ length (now (rest .entry)) ⌝ }
 {
     if rest.len() < 7 {
@@ -65,6 +69,7 @@ fn set_signed(rest: &[u8], space: &mut [i32]) -> usize
 }
 
 fn set_number(rest: &[u8], space: &mut [u32]) -> usize
+    ensures { λ r. ⌜ PlaceSet 7 (fourAt (now (rest .entry)) 3) (now (rest .entry)) (now (space .entry)) (now (space .exit)) r ⌝ }
     ensures { λ r. ⌜ r ≤ length (now (rest .entry)) ⌝ }
 {
     if rest.len() < 7 {
@@ -79,6 +84,7 @@ fn set_number(rest: &[u8], space: &mut [u32]) -> usize
 }
 
 fn set_byte(rest: &[u8], space: &mut [u8]) -> usize
+    ensures { λ r. ⌜ PlaceSet 4 (nth (now (rest .entry)) 3) (now (rest .entry)) (now (space .entry)) (now (space .exit)) r ⌝ }
     ensures { λ r. ⌜ r ≤ length (now (rest .entry)) ⌝ }
 {
     if rest.len() < 4 {
