@@ -1,6 +1,6 @@
 // Takes the branches of several books out one after another, and tells how many losses each call judged.
 // Each book has its length in two bytes before it, the high byte first.
-ghost use Prim.Native.Nat.{_<_, _≤_};
+ghost use Prim.Native.Nat.{_≤_};
 ghost use lib.ListN.{length};
 use libc::STDIN_FILENO;
 use libc::STDOUT_FILENO;

@@ -1,5 +1,4 @@
 // Runs the list of `outages` on several inputs: each has its length in two bytes before it, the high byte first.
-ghost use Prim.Native.Nat.{_<_};
 use libc::STDIN_FILENO;
 
 fn main() {

@@ -1,18 +1,14 @@
--- The rest of the input as it is moved to the front; a signed number of the stream.
+-- The rest of the input as it is moved to the front.
 use mathlib.Core.Path.{_≡_, refl, sym, ap, _∙_}
 use mathlib.Core.List.{List}
 use Prim.Native.Nat.{ℕ, _+_, _-_, _<_, _≤_}
 use native.Mathlib.Omega.{arith}
 use native.Mathlib.Numerals.{add-one}
-use lib.IntN.{pos, negsuc, _-ℤ_}
 use lib.ListN.{length, take, drop, set, length-set, length-drop}
 use lib.Seq.{take-suc, take-suc-set, drop-set-lt, drop-drop, getD-drop}
 use borrow.Rule.Slice.PartMut.{midOf, putMid, same-len-mid, mid-len, take-put}
-use mir.Syntax.{w32}
-use mir.Val.{SFits}
 use Rattle.rows.specs.Row.{nth}
-use Rattle.quantity.proofs.Parts.{minus}
-use Rattle.trial.specs.Stream.{Refilled}
+use Rattle.trial.specs.Input.{Refilled}
 
 -- i bytes from `at` on stand in front, and from place i on all is as it was.
 pub record Moving (l : List ℕ) (at kept : ℕ) (m : List ℕ) (i : ℕ) : Type 0 where
@@ -59,10 +55,3 @@ refilled {l} {m} {at} {e} {i} {n} new u v p h long few =
       inside = rw (same-len-mid (e - at) (length m - (e - at)) m new long) (omega arith);
       kept = take-put (e - at) (length m - (e - at)) m new here ∙ rw all at (p .moved);
     }
-
--- -1 less y.
-pub less-one : (y : ℕ) → negsuc 0 -ℤ pos y ≡ negsuc y
-less-one y = minus (negsuc 0) (pos y) (negsuc y) .1 (omega arith)
-
-pub less-one-fits : (y : ℕ) → y ≤ 2147483647 → SFits w32 (negsuc y)
-less-one-fits y h = record { sfits = omega arith }

@@ -1,2 +1,2 @@
-pub mod Stream
-pub mod Spaces
+pub mod Input
+pub mod Calls

@@ -3,18 +3,18 @@ ghost use mathlib.Core.Path.{_≡_};
 ghost use Prim.Native.Nat.{_+_, _*_, _<_, _≤_, max};
 ghost use lib.ListN.{length, replicate};
 ghost use Rattle.rows.specs.Row.{headed};
-ghost use Rattle.trial.specs.Stream.{fourAt};
-ghost use Rattle.trial.specs.Spaces.{Ordered, Sized};
+ghost use Rattle.spaces.specs.Stream.{fourAt};
+ghost use Rattle.trial.specs.Calls.{Ordered, Sized};
 use crate::lines::answer_line;
 use crate::lines::branches_line;
 use crate::lines::dump;
 use crate::lines::signed_line;
-use crate::spaces::Next;
-use crate::stream::four;
 use rows::Answer;
 use rows::Outcome;
 use rows::two;
 use rows::wide;
+use spaces::Next;
+use spaces::four;
 
 fn run_screen(rest: &[u8], book: &[u8], bytes: usize, flow: &mut [i32], table: &mut [u8]) -> usize
     requires { ⌜ bytes ≤ length (now book) ⌝ }

@@ -1,12 +1,10 @@
 // Runs calls from a stream on standard input and writes what they answer: docs/TRIAL.md has the table of its commands.
 ghost use Prim.Native.Nat.{_<_, _≤_};
 ghost use lib.ListN.{length};
-ghost use Rattle.trial.specs.Stream.{Refilled};
+ghost use Rattle.trial.specs.Input.{Refilled};
 
 mod calls;
 mod lines;
-mod spaces;
-mod stream;
 
 use calls::run_call;
 use calls::run_write;

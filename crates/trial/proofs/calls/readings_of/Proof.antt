@@ -3,7 +3,7 @@ use native.Mathlib.Omega.{arith}
 use Prim.Native.Nat.{_-_}
 use Prim.Native.Nat.{_+_, _*_}
 use Rattle.book.proofs.Tables.{Filling, fill-start, fill-more, fill-end}
-use Rattle.trial.specs.Stream.{fourAt}
+use Rattle.spaces.specs.Stream.{fourAt}
 use Rattle.trial.proofs.calls.readings_of.Statement.{statement}
 use Rattle.trial.proofs.calls.readings_of.Tie as tie
 

@@ -1,13 +1,16 @@
-// Commands that only set the spaces. Each answers how many bytes of the stream it took, and 0 where it is bad.
+// The spaces that a stream of calls works on, and the commands that only set them. Each answers how many bytes of the stream it took, and 0 where it is bad.
 ghost use mathlib.Core.Path.{_≡_};
 ghost use Prim.Native.Nat.{_<_, _≤_};
 ghost use lib.ListN.{length};
 ghost use Rattle.rows.specs.Row.{nth};
-ghost use Rattle.trial.specs.Stream.{fourAt, signedFrom};
-ghost use Rattle.trial.specs.Spaces.{PlaceSet};
-use crate::stream::four;
-use crate::stream::signed;
+ghost use Rattle.spaces.specs.Stream.{fourAt, signedFrom};
+ghost use Rattle.spaces.specs.Spaces.{PlaceSet};
+
+mod stream;
+
 use rows::two;
+pub use stream::four;
+use stream::signed;
 
 // What a command took, and the bytes that the book then has.
 pub struct Next {

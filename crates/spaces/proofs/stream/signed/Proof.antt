@@ -7,9 +7,9 @@ use lib.IntN.{negsuc, _-ℤ_}
 use mir.Syntax.{w32}
 use mir.Val.{SFits, toZ}
 use mir.Facts.{toZ-ofZ, toZ-pos}
-use Rattle.trial.proofs.Moving.{less-one, less-one-fits}
-use Rattle.trial.proofs.stream.signed.Statement.{statement}
-use Rattle.trial.proofs.stream.signed.Tie as tie
+use Rattle.spaces.proofs.Signed.{less-one, less-one-fits}
+use Rattle.spaces.proofs.stream.signed.Statement.{statement}
+use Rattle.spaces.proofs.stream.signed.Tie as tie
 
 at : (c : tie.Else1) → negsuc 0 -ℤ toZ w32 (4294967295 - c .before .args .x) ≡ negsuc (4294967295 - c .before .args .x)
 at c = rw (toZ-pos w32 {n = 4294967295 - c .before .args .x} (omega arith)) (less-one (4294967295 - c .before .args .x))

@@ -1,13 +1,13 @@
 use borrow.Author.Needs.{needs, sfits-of}
 use native.Mathlib.Omega.{arith}
 use mathlib.Core.Path.{ap, _∙_}
-use Rattle.trial.proofs.Setting.{set-short, set-beyond, set-done}
+use Rattle.spaces.proofs.Setting.{set-short, set-beyond, set-done}
 use mir.Syntax.{w32}
 use mir.Val.{SFits}
 use mir.Facts.{toZ-ofZ}
-use Rattle.trial.specs.Stream.{signedFrom}
-use Rattle.trial.proofs.spaces.set_signed.Statement.{statement}
-use Rattle.trial.proofs.spaces.set_signed.Tie as tie
+use Rattle.spaces.specs.Stream.{signedFrom}
+use Rattle.spaces.proofs.set_signed.Statement.{statement}
+use Rattle.spaces.proofs.set_signed.Tie as tie
 
 returns : tie.Need-returns
 returns c = (set-short _ _ _ _ (c .if1 .taken), omega arith)

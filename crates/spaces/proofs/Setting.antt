@@ -5,8 +5,8 @@ use Prim.Native.Nat.{ℕ, _<_, _≤_}
 use native.Mathlib.Omega.{arith}
 use borrow.Author.Tests.{lt-leb, le-leb, lt-ltb, le-ltb}
 use lib.ListN.{length, set}
-use Rattle.trial.specs.Stream.{twoAt}
-use Rattle.trial.specs.Spaces.{PlaceSet}
+use Rattle.rows.specs.Row.{twoAt}
+use Rattle.spaces.specs.Spaces.{PlaceSet}
 
 module _ {A : Type 0} (size : ℕ) (v : A) (rest : List ℕ) (space : List A) where
   pub set-short : length rest < size → PlaceSet size v rest space space 0

@@ -3,8 +3,8 @@ use native.Mathlib.Omega.{arith}
 use mathlib.Core.Path.{_≡_, refl}
 use Prim.Native.Nat.{_-_, _≤_}
 use lib.ListN.{length}
-use Rattle.trial.proofs.spaces.set_book.Statement.{statement}
-use Rattle.trial.proofs.spaces.set_book.Tie as tie
+use Rattle.spaces.proofs.set_book.Statement.{statement}
+use Rattle.spaces.proofs.set_book.Tie as tie
 
 abbrev Inv-loop : tie.InvT-loop
 Inv-loop rest book₀ bytes count i₀ book i = (length book ≡ length book₀) × (i ≤ count)
