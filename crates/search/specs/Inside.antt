@@ -12,15 +12,10 @@ use Rattle.search.specs.declared.Found.{Found}
 use Rattle.search.specs.declared.Seeds.{Seeds}
 use Rattle.search.specs.declared.Lead.{Lead}
 
--- `leads`: from a bus at one end of a branch to the other end, with the latent capacity that way.
-pub record Leads (here a b x y : ℕ) (r : Lead) : Type 0 where
-  pub at-first : a ≡ here → (r .bus ≡ b) × (r .spare ≡ x)
-  pub at-second : (a ≡ here → ⊥) → (r .bus ≡ a) × (r .spare ≡ y)
-
--- `onward`: the next branch of a bus at one end of a branch.
-pub record Onward (here a x y r : ℕ) : Type 0 where
-  pub at-first : a ≡ here → r ≡ x
-  pub at-second : (a ≡ here → ⊥) → r ≡ y
+-- `leads`: from the end of a branch that a side meets to the other end, with the latent capacity that way.
+pub record Leads (side a b x y : ℕ) (r : Lead) : Type 0 where
+  pub from-first : side < 256 → (r .bus ≡ b) × (r .spare ≡ x)
+  pub from-second : 256 ≤ side → (r .bus ≡ a) × (r .spare ≡ y)
 
 -- The bus at place p of the queue is a start, or is joined by the branch of its mark to a bus at an earlier place; w has the room of each bus.
 pub data Placed (N : Scene) (m q w : List ℕ) (p : ℕ) : Type 0 where

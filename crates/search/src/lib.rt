@@ -2,19 +2,20 @@
 // What is public here serves the crates above alone, which meet what it requires.
 ghost use Rattle.search.specs.Wires.{Wired, Wiring};
 ghost use Rattle.search.specs.Search.{Bits, Searchable, Searched};
-ghost use Rattle.search.specs.Inside.{Leads, Onward, Blank, Seeded, flagOf, Byte, Packed};
+ghost use Rattle.search.specs.Inside.{Leads, Blank, Seeded, flagOf, Byte, Packed};
 ghost use Prim.Native.Nat.{_<_, _≤_, _+_, min};
 ghost use mathlib.Core.Path.{_≡_};
 
-// The ends of the branches, and links that give the branches of a bus in rising number; 256 is none.
+// The ends of the branches, and links that give the branches of a bus in rising number.
+// A link is a side: k is branch k met at its first end, 256 + k is branch k met at its second end, 512 is none.
+// So the next side is one load away, and the end that was met needs no comparison of buses.
 pub struct Wires {
     pub buses: usize,
     pub branches: usize,
     pub first: [u8; 256],
     pub second: [u8; 256],
     pub head: [u16; 128],
-    pub after_first: [u16; 256],
-    pub after_second: [u16; 256],
+    pub after: [u16; 512],
 }
 
 // What one search works on: marks, all 0 at first, the queue, and the latent capacity of each branch either way.
@@ -55,23 +56,22 @@ pub fn smaller(x: u32, y: u32) -> u32
     if x < y { x } else { y }
 }
 
-// From the highest branch down, so that `head` always holds the next one of its bus.
+// From the highest branch down, so that `head` always holds the next side at its bus.
 pub fn link(buses: usize, branches: usize, first: [u8; 256], second: [u8; 256]) -> Wires
     requires { ⌜ Wired buses branches first second ⌝ }
     ensures { λ r. ⌜ Wiring buses branches first second r ⌝ }
 {
-    let mut head = [256u16; 128];
-    let mut after_first = [256u16; 256];
-    let mut after_second = [256u16; 256];
+    let mut head = [512u16; 128];
+    let mut after = [512u16; 512];
     let mut k = branches;
     while k > 0 {
         k -= 1;
         let a = first[k] as usize;
         let b = second[k] as usize;
-        after_first[k] = head[a];
-        after_second[k] = head[b];
+        after[k] = head[a];
+        after[k + 256] = head[b];
         head[a] = k as u16;
-        head[b] = k as u16;
+        head[b] = (k + 256) as u16;
     }
     Wires {
         buses,
@@ -79,26 +79,18 @@ pub fn link(buses: usize, branches: usize, first: [u8; 256], second: [u8; 256]) 
         first,
         second,
         head,
-        after_first,
-        after_second,
+        after,
     }
 }
 
-fn leads(here: usize, a: usize, b: usize, x: u32, y: u32) -> Lead
-    ensures { λ r. ⌜ Leads here a b x y r ⌝ }
+fn leads(side: usize, a: usize, b: usize, x: u32, y: u32) -> Lead
+    ensures { λ r. ⌜ Leads side a b x y r ⌝ }
 {
-    if a == here {
+    if side < 256 {
         Lead { bus: b, spare: x }
     } else {
         Lead { bus: a, spare: y }
     }
-}
-
-// The next branch of a bus at one end of a branch.
-pub fn onward(here: usize, a: usize, x: u16, y: u16) -> usize
-    ensures { λ r. ⌜ Onward here a x y r ⌝ }
-{
-    if a == here { x as usize } else { y as usize }
 }
 
 // Every start is marked 1 and queued.
@@ -196,11 +188,12 @@ pub fn explore(wires: Wires, work: Work, roles: [u8; 128]) -> Found
         }
         let here = queue[at] as usize;
         let low = room[here];
-        let mut k = wires.head[here] as usize;
-        while k < 256 {
+        let mut side = wires.head[here] as usize;
+        while side < 512 {
+            let k = side % 256;
             let a = wires.first[k] as usize;
             let b = wires.second[k] as usize;
-            let lead = leads(here, a, b, work.ahead[k], work.back[k]);
+            let lead = leads(side, a, b, work.ahead[k], work.back[k]);
             let to = lead.bus;
             if lead.spare > 0 && marks[to] == 0 {
                 let least = smaller(low, lead.spare);
@@ -215,7 +208,7 @@ pub fn explore(wires: Wires, work: Work, roles: [u8; 128]) -> Found
                     };
                 }
             }
-            k = onward(here, a, wires.after_first[k], wires.after_second[k]);
+            side = wires.after[side] as usize;
         }
         at += 1;
     };
