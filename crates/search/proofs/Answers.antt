@@ -16,7 +16,7 @@ use Rattle.search.proofs.Tree.{tree-queued}
 use Rattle.search.proofs.Scan.{Scan, scan-reached}
 
 module _ {W : Wires} {w : Work} {roles m q rooms : List ℕ} where
-  searched : (answer : Search) (t : ℕ) (r : Found) → Tree (scene W (w .ahead) (w .back) roles) m q rooms t → Packed answer t m q w r → Said (scene W (w .ahead) (w .back) roles) m (r .group) answer → Searched W w roles r
+  searched : (answer : Search) (t : ℕ) (r : Found) → Tree (scene W (w .ahead) (w .back) roles) m q rooms t → Packed answer t m q (w .ahead) (w .back) r → Said (scene W (w .ahead) (w .back) roles) m (r .group) answer → Searched W w roles r
   searched answer t r T P said =
       record {
         same-ahead = P .same-ahead;
@@ -26,15 +26,15 @@ module _ {W : Wires} {w : Work} {roles m q rooms : List ℕ} where
       }
 
   pub searched-group : {h t : ℕ} → Scan W (w .ahead) (w .back) roles m q rooms h t → t ≤ h
-      → {m₁ q₁ : List ℕ} {t₁ : ℕ} {answer : Search} {r : Found} → Packed answer t₁ m₁ q₁ w r → m₁ ≡ m → q₁ ≡ q → t₁ ≡ t → answer ≡ Group → Searched W w roles r
+      → {m₁ q₁ : List ℕ} {t₁ : ℕ} {answer : Search} {r : Found} → Packed answer t₁ m₁ q₁ (w .ahead) (w .back) r → m₁ ≡ m → q₁ ≡ q → t₁ ≡ t → answer ≡ Group → Searched W w roles r
   searched-group {t = t} S l {r = r} P i j i′ j′ =
-      let P′ : Packed Group t m q w r = rw (i, j, i′, j′) at P in
+      let P′ : Packed Group t m q (w .ahead) (w .back) r = rw (i, j, i′, j′) at P in
       searched Group t r (S .tree) P′ (record { reached = scan-reached S l; apart = λ v b. S .apart v; bits = P′ .shown })
 
   pub searched-route : {t v x : ℕ} → Tree (scene W (w .ahead) (w .back) roles) m q rooms t → Routed (scene W (w .ahead) (w .back) roles) m v x
-      → {m₁ q₁ : List ℕ} {t₁ : ℕ} {answer : Search} {r : Found} → Packed answer t₁ m₁ q₁ w r → m₁ ≡ m → q₁ ≡ q → t₁ ≡ t → answer ≡ Route v x → Searched W w roles r
+      → {m₁ q₁ : List ℕ} {t₁ : ℕ} {answer : Search} {r : Found} → Packed answer t₁ m₁ q₁ (w .ahead) (w .back) r → m₁ ≡ m → q₁ ≡ q → t₁ ≡ t → answer ≡ Route v x → Searched W w roles r
   searched-route {t} {v} {x} T R {r = r} P i j i′ j′ =
-      let P′ : Packed (Route v x) t m q w r = rw (i, j, i′, j′) at P in
+      let P′ : Packed (Route v x) t m q (w .ahead) (w .back) r = rw (i, j, i′, j′) at P in
       searched (Route v x) t r T P′ (R, P′ .shown)
 
 module _ {W : Wires} {w : Work} {roles : List ℕ} {r : Found} (S : Searched W w roles r) where

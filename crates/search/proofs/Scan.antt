@@ -17,7 +17,6 @@ use Rattle.search.specs.Search.{Scene, scene, Way, Arc, Step, Start, mar
 use Rattle.search.specs.Search.Way.{forth, back}
 use Rattle.search.specs.Inside.{Leads, Tree, Seeded}
 use Rattle.search.specs.declared.Wires.{Wires}
-use Rattle.search.specs.declared.Seeds.{Seeds}
 use Rattle.search.specs.declared.Lead.{Lead}
 use Rattle.search.proofs.Rows.{either-place, still-positive}
 use Rattle.search.proofs.Links.{after-least}
@@ -51,7 +50,7 @@ arc-touches N k c u v x = by (x .way)
     by (forth p r e) = inl p
     by (back p r e) = inr p
 
-pub scan-start : {W : Wires} (a b : List ℕ) {roles : List ℕ} {r : Seeds} → Linked W → Seeded (W .buses) roles r → Scan W a b roles (r .marks) (r .queue) (replicate 128 4294967295) 0 (r .count)
+pub scan-start : {W : Wires} (a b : List ℕ) {roles m q : List ℕ} {t : ℕ} → Linked W → Seeded (W .buses) roles m q t → Scan W a b roles m q (replicate 128 4294967295) 0 t
 scan-start {W} a b {roles} K S =
     record {
       linked = K;

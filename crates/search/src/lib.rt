@@ -39,12 +39,6 @@ pub struct Found {
     pub work: Work,
 }
 
-struct Seeds {
-    marks: [u16; 128],
-    queue: [u8; 128],
-    count: usize,
-}
-
 struct Lead {
     bus: usize,
     spare: u32,
@@ -93,13 +87,11 @@ fn leads(side: usize, a: usize, b: usize, x: u32, y: u32) -> Lead
     }
 }
 
-// Every start is marked 1 and queued.
-fn seed(buses: usize, roles: [u8; 128], work: Work) -> Seeds
-    requires { ⌜ Blank buses work ⌝ }
-    ensures { λ r. ⌜ Seeded buses roles r ⌝ }
+// Every start is marked 1 and queued; the answer is how many there are.
+fn seed(buses: usize, roles: &[u8; 128], marks: &mut [u16; 128], queue: &mut [u8; 128]) -> usize
+    requires { ⌜ Blank buses (now marks) (now queue) ⌝ }
+    ensures { λ r. ⌜ Seeded buses (now (roles .entry)) (now (marks .exit)) (now (queue .exit)) r ⌝ }
 {
-    let mut marks = work.marks;
-    let mut queue = work.queue;
     let mut count: usize = 0;
     let mut v: usize = 0;
     while v < buses {
@@ -110,11 +102,7 @@ fn seed(buses: usize, roles: [u8; 128], work: Work) -> Seeds
         }
         v += 1;
     }
-    Seeds {
-        marks,
-        queue,
-        count,
-    }
+    count
 }
 
 fn flag(mark: u16) -> u8
@@ -124,9 +112,9 @@ fn flag(mark: u16) -> u8
 }
 
 // Eight marks as the bits of a byte, the first of them the highest.
-fn byte(marks: [u16; 128], at: usize) -> u8
+fn byte(marks: &[u16; 128], at: usize) -> u8
     requires { ⌜ at + 8 ≤ 128 ⌝ }
-    ensures { λ r. ⌜ Byte marks at r ⌝ }
+    ensures { λ r. ⌜ Byte (now (marks .entry)) at r ⌝ }
 {
     let mut x: u8 = 0;
     let mut i: usize = 0;
@@ -137,8 +125,8 @@ fn byte(marks: [u16; 128], at: usize) -> u8
     x
 }
 
-fn bits(marks: [u16; 128]) -> [u8; 16]
-    ensures { λ r. ⌜ Bits marks r ⌝ }
+fn bits(marks: &[u16; 128]) -> [u8; 16]
+    ensures { λ r. ⌜ Bits (now (marks .entry)) r ⌝ }
 {
     let mut group = [0u8; 16];
     let mut j: usize = 0;
@@ -149,14 +137,19 @@ fn bits(marks: [u16; 128]) -> [u8; 16]
     group
 }
 
-fn packed(answer: Search, taken: usize, marks: [u16; 128], queue: [u8; 128], work: Work) -> Found
-    ensures { λ r. ⌜ Packed answer taken marks queue work r ⌝ }
+fn packed(
+    answer: Search,
+    taken: usize,
+    marks: [u16; 128],
+    queue: [u8; 128],
+    ahead: [u32; 256],
+    back: [u32; 256],
+) -> Found
+    ensures { λ r. ⌜ Packed answer taken marks queue ahead back r ⌝ }
 {
-    let ahead = work.ahead;
-    let back = work.back;
     let group = match answer {
         Search::Route { goal: _, room: _ } => [0u8; 16],
-        Search::Group => bits(marks),
+        Search::Group => bits(&marks),
     };
     Found {
         answer,
@@ -176,10 +169,9 @@ pub fn explore(wires: Wires, work: Work, roles: [u8; 128]) -> Found
     requires { ⌜ Searchable wires work ⌝ }
     ensures { λ r. ⌜ Searched wires work roles r ⌝ }
 {
-    let seeds = seed(wires.buses, roles, work);
-    let mut marks = seeds.marks;
-    let mut queue = seeds.queue;
-    let mut tail = seeds.count;
+    let mut marks = work.marks;
+    let mut queue = work.queue;
+    let mut tail = seed(wires.buses, &roles, &mut marks, &mut queue);
     let mut room = [4294967295u32; 128];
     let mut at: usize = 0;
     let answer = 'scan: loop {
@@ -212,5 +204,7 @@ pub fn explore(wires: Wires, work: Work, roles: [u8; 128]) -> Found
         }
         at += 1;
     };
-    packed(answer, tail, marks, queue, work)
+    let ahead = work.ahead;
+    let back = work.back;
+    packed(answer, tail, marks, queue, ahead, back)
 }

@@ -41,10 +41,10 @@ place-left : (c : tie.After-smaller Inv-loop μ-loop Inv-scan μ-scan) → c .be
 place-left c = turn-room (c .before .before .before .before .before .before .before .before .before .before .loop .inv) (in-row (c .before .before .before .before .before .before .before .before .before)) refl (c .before .before .before .before .leads .ensures) (c .before .before .if2 .taken) (unmarked (c .before)) _ (c .smaller .ensures)
 
 seed-requires : tie.Need-seed-requires Inv-loop μ-loop Inv-scan μ-scan
-seed-requires c κs = record { few = c .pre .linked .wired .few; blank = c .pre .blank }
+seed-requires c κs = record { few = c .before .before .before .before .before .pre .linked .wired .few; blank = c .before .before .before .before .before .pre .blank; slots = search needs }
 
 scan-holds : tie.Need-scan-holds Inv-loop μ-loop Inv-scan μ-scan
-scan-holds c = scan-start _ _ (c .before .before .before .pre .linked) (c .before .before .seed .ensures)
+scan-holds c = scan-start _ _ (c .before .before .before .before .before .before .pre .linked) (c .seed .ensures)
 
 array-read-here : tie.Need-array-read-here Inv-loop μ-loop Inv-scan μ-scan
 array-read-here c = omega arith
@@ -173,12 +173,12 @@ packed-requires c κs = search needs
 returns : tie.Need-returns Inv-loop μ-loop Inv-scan μ-scan
 returns c =
     ⊎-elim
-    (λ w. searched-group (c .before .before .scan .inv) (w .0 .taken) (c .packed .ensures) (w .1) (w .2) (w .3) (w .4))
+    (λ w. searched-group (c .before .before .before .before .scan .inv) (w .0 .taken) (c .packed .ensures) (w .1) (w .2) (w .3) (w .4))
     (λ w. searched-route
     (turn-tree (w .2 .inv) (w .3 .taken) refl (w .8 .ensures) (w .10 .taken) (eqb-true _ _ (w .11 .taken)) _ (w .12 .ensures))
     (turn-hit (w .2 .inv) (w .3 .taken) refl (w .8 .ensures) (w .10 .taken) (eqb-true _ _ (w .11 .taken)) _ (w .12 .ensures) (w .13 .taken))
     (c .packed .ensures) (w .14) (w .15) (w .16) (w .17))
-    (c .before .if1 .came)
+    (c .before .before .before .if1 .came)
 
 pub explore-spec : {M : Type 1} → statement M
 explore-spec =
