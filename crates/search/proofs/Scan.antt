@@ -80,12 +80,6 @@ module _ {W : Wires} {a b roles m q w : List ℕ} {h t : ℕ} (S : Scan W a b ro
       }
 
 module _ {W : Wires} {a b roles m q w : List ℕ} {h t here low side : ℕ} (R : Turn W a b roles m q w h t here low side) (l : side < 512) where
-  pub turn-first : nth (W .first) (side % 256) < 128
-  turn-first = omega (arith, R .scan .linked .wired .first-in (side % 256) (R .under l), R .scan .linked .wired .few)
-
-  pub turn-second : nth (W .second) (side % 256) < 128
-  turn-second = omega (arith, R .scan .linked .wired .second-in (side % 256) (R .under l), R .scan .linked .wired .few)
-
   pub turn-next : Least (W .branches) (W .first) (W .second) (side % 256 + 1) here (nth (W .after) side)
   turn-next = after-least W (R .scan .linked) (side % 256) here side (R .under l) (R .met l)
 

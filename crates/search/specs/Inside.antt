@@ -5,6 +5,7 @@ use Prim.Native.Nat.{ℕ, zero, suc, _+_, _-_, _/_, _%_, _^_, _<_, _≤_, min}
 use lib.ListN.{length, replicate}
 use Rattle.rows.specs.Row.{nth}
 use Rattle.search.specs.Search.{Scene, Arc, Bits}
+use Rattle.search.specs.declared.Work.{Work}
 use Rattle.search.specs.declared.Search.{Search}
 use Rattle.search.specs.declared.Search.the-variants.{Route, Group}
 use Rattle.search.specs.declared.Found.{Found}
@@ -67,11 +68,8 @@ Shown (Route v r) m g = g ≡ replicate 16 0
 Shown Group m g = Bits m g
 
 -- `packed`: the parts of an answer, with the group's bits beside it.
-pub record Packed (answer : Search) (t : ℕ) (m q a b : List ℕ) (r : Found) : Type 0 where
+pub record Packed (answer : Search) (t : ℕ) (w : Work) (r : Found) : Type 0 where
   pub same-answer : r .answer ≡ answer
   pub same-taken : r .taken ≡ t
-  pub same-marks : r .work .marks ≡ m
-  pub same-queue : r .work .queue ≡ q
-  pub same-ahead : r .work .ahead ≡ a
-  pub same-back : r .work .back ≡ b
-  pub shown : Shown answer m (r .group)
+  pub same-work : r .work ≡ w
+  pub shown : Shown answer (w .marks) (r .group)

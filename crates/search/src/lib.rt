@@ -77,13 +77,19 @@ pub fn link(buses: usize, branches: usize, first: [u8; 256], second: [u8; 256]) 
     }
 }
 
-fn leads(side: usize, a: usize, b: usize, x: u32, y: u32) -> Lead
+fn leads(side: usize, a: u8, b: u8, x: u32, y: u32) -> Lead
     ensures { λ r. ⌜ Leads side a b x y r ⌝ }
 {
     if side < 256 {
-        Lead { bus: b, spare: x }
+        Lead {
+            bus: b as usize,
+            spare: x,
+        }
     } else {
-        Lead { bus: a, spare: y }
+        Lead {
+            bus: a as usize,
+            spare: y,
+        }
     }
 }
 
@@ -137,35 +143,23 @@ fn bits(marks: &[u16; 128]) -> [u8; 16]
     group
 }
 
-fn packed(
-    answer: Search,
-    taken: usize,
-    marks: [u16; 128],
-    queue: [u8; 128],
-    ahead: [u32; 256],
-    back: [u32; 256],
-) -> Found
-    ensures { λ r. ⌜ Packed answer taken marks queue ahead back r ⌝ }
+fn packed(answer: Search, taken: usize, work: Work) -> Found
+    ensures { λ r. ⌜ Packed answer taken work r ⌝ }
 {
     let group = match answer {
         Search::Route { goal: _, room: _ } => [0u8; 16],
-        Search::Group => bits(&marks),
+        Search::Group => bits(&work.marks),
     };
     Found {
         answer,
         taken,
         group,
-        work: Work {
-            marks,
-            queue,
-            ahead,
-            back,
-        },
+        work,
     }
 }
 
 // From the buses of role 1, over latent capacity, to the first bus of role 2.
-pub fn explore(wires: Wires, work: Work, roles: [u8; 128]) -> Found
+pub fn explore(wires: Wires, mut work: Work, roles: [u8; 128]) -> Found
     requires { ⌜ Searchable wires work ⌝ }
     ensures { λ r. ⌜ Searched wires work roles r ⌝ }
 {
@@ -183,8 +177,8 @@ pub fn explore(wires: Wires, work: Work, roles: [u8; 128]) -> Found
         let mut side = wires.head[here] as usize;
         while side < 512 {
             let k = side % 256;
-            let a = wires.first[k] as usize;
-            let b = wires.second[k] as usize;
+            let a = wires.first[k];
+            let b = wires.second[k];
             let lead = leads(side, a, b, work.ahead[k], work.back[k]);
             let to = lead.bus;
             if lead.spare > 0 && marks[to] == 0 {
@@ -204,7 +198,7 @@ pub fn explore(wires: Wires, work: Work, roles: [u8; 128]) -> Found
         }
         at += 1;
     };
-    let ahead = work.ahead;
-    let back = work.back;
-    packed(answer, tail, marks, queue, ahead, back)
+    work.marks = marks;
+    work.queue = queue;
+    packed(answer, tail, work)
 }

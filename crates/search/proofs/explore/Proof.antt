@@ -7,7 +7,7 @@ use mathlib.Core.Logic.{⊎-elim}
 use borrow.Author.Tests.{eqb-true, eqb-false}
 use Rattle.rows.specs.Row.{nth}
 use Rattle.search.specs.Wires.{branchOf}
-use Rattle.search.proofs.Scan.{Scan, Turn, scan-start, here-bus, turn-start, turn-first, turn-second, turn-next, to-row, turn-skip, turn-room, turn-tree, turn-hit, turn-mark, turn-end}
+use Rattle.search.proofs.Scan.{Scan, Turn, scan-start, here-bus, turn-start, turn-next, to-row, turn-skip, turn-room, turn-tree, turn-hit, turn-mark, turn-end}
 use Rattle.search.proofs.Answers.{searched-group, searched-route}
 use Rattle.search.proofs.explore.Statement.{statement}
 use Rattle.search.proofs.explore.Tie as tie
@@ -73,14 +73,8 @@ loop-holds c = turn-start (c .before .before .scan .inv) (c .before .if1 .left)
 element-copy-out-a : tie.Need-element-copy-out-a Inv-loop μ-loop Inv-scan μ-scan
 element-copy-out-a c = omega arith
 
-cast-a : tie.Need-cast-a Inv-loop μ-loop Inv-scan μ-scan
-cast-a c = omega (arith, turn-first (c .before .before .loop .inv) (in-row (c .before)))
-
 element-copy-out-b : tie.Need-element-copy-out-b Inv-loop μ-loop Inv-scan μ-scan
 element-copy-out-b c = omega arith
-
-cast-b : tie.Need-cast-b Inv-loop μ-loop Inv-scan μ-scan
-cast-b c = omega (arith, turn-second (c .before .before .before .loop .inv) (in-row (c .before .before)))
 
 mul-leads : tie.Need-mul-leads Inv-loop μ-loop Inv-scan μ-scan
 mul-leads c = omega arith
@@ -173,12 +167,12 @@ packed-requires c κs = search needs
 returns : tie.Need-returns Inv-loop μ-loop Inv-scan μ-scan
 returns c =
     ⊎-elim
-    (λ w. searched-group (c .before .before .before .before .scan .inv) (w .0 .taken) (c .packed .ensures) (w .1) (w .2) (w .3) (w .4))
+    (λ w. searched-group (c .before .before .scan .inv) (w .0 .taken) (c .packed .ensures) (w .1) (w .2) (w .3) (w .4))
     (λ w. searched-route
     (turn-tree (w .2 .inv) (w .3 .taken) refl (w .8 .ensures) (w .10 .taken) (eqb-true _ _ (w .11 .taken)) _ (w .12 .ensures))
     (turn-hit (w .2 .inv) (w .3 .taken) refl (w .8 .ensures) (w .10 .taken) (eqb-true _ _ (w .11 .taken)) _ (w .12 .ensures) (w .13 .taken))
     (c .packed .ensures) (w .14) (w .15) (w .16) (w .17))
-    (c .before .before .before .if1 .came)
+    (c .before .if1 .came)
 
 pub explore-spec : {M : Type 1} → statement M
 explore-spec =
@@ -199,9 +193,7 @@ explore-spec =
     cast-side
     loop-holds
     element-copy-out-a
-    cast-a
     element-copy-out-b
-    cast-b
     mul-leads
     element-copy-out-leads
     mul-leads-2
