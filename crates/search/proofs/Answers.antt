@@ -1,11 +1,9 @@
 -- From the scan's end to the answer, and from the answer to what a caller that took it apart has.
 use mathlib.Core.Path.{_≡_, refl, subst}
-use mathlib.Core.Bool.{true}
 use mathlib.Core.List.{List}
 use Prim.Native.Nat.{ℕ, _<_, _≤_}
 use Rattle.rows.specs.Row.{nth}
-use Rattle.grid.specs.Reach.{onward}
-use Rattle.search.specs.Search.{Scene, scene, Arc, marked, Grouped, Routed, Queued, Said, Searched}
+use Rattle.search.specs.Search.{scene, Grouped, Routed, Queued, Said, Searched}
 use Rattle.search.specs.Inside.{Tree, Packed}
 use Rattle.search.specs.declared.Wires.{Wires}
 use Rattle.search.specs.declared.Work.{Work}
@@ -51,7 +49,3 @@ module _ {W : Wires} {w : Work} {roles : List ℕ} {r : Found} (S : Searched W w
 -- Only buses of the network are marked.
 pub marked-bus : {n t : ℕ} {m q : List ℕ} → Queued n m q t → (v : ℕ) → 0 < nth m v → v < n
 marked-bus {n} Q v h = let p = Q .held v h in subst (λ (u : ℕ). u < n) (p .2) (Q .bus (p .0) (p .1))
-
--- No branch with latent capacity that way leaves the group.
-pub group-closed : (N : Scene) (m g : List ℕ) → Grouped N m g → (k c u v : ℕ) → u < N .buses → marked m u ≡ true → Arc N k c u v → marked m v ≡ true
-group-closed N m g G k c u v b h x = G .reached .complete v (onward (G .reached .sound u b h) (record { branch = k; capacity = c; arc = x }))

@@ -8,7 +8,7 @@ ghost use mathlib.Core.Path.{_≡_};
 
 // The ends of the branches, and links that give the branches of a bus in rising number.
 // A link is a side: k is branch k met at its first end, 256 + k is branch k met at its second end, 512 is none.
-// So the next side is one load away, and the end that was met needs no comparison of buses.
+// So the scan finds the next side by one load, and knows which end it met without a comparison of buses.
 pub struct Wires {
     pub buses: usize,
     pub branches: usize,
@@ -198,6 +198,7 @@ pub fn explore(wires: Wires, mut work: Work, roles: [u8; 128]) -> Found
         }
         at += 1;
     };
+    // The work goes back as it came but for these two: a new one would copy the capacities once more.
     work.marks = marks;
     work.queue = queue;
     packed(answer, tail, work)

@@ -1,6 +1,5 @@
 -- The starts below v are marked and queued.
 use Prim.Native.Nat.{_-_}
-use borrow.Author.Needs.{needs}
 use native.Mathlib.Omega.{arith}
 use mathlib.Core.Logic.{⊎-elim}
 use Rattle.search.proofs.Sowing.{Sow, sow-none, sow-skip, sow-mark, sow-end}
