@@ -2,7 +2,7 @@
 use mathlib.Core.Path.{_≡_, refl, _∙_}
 use mathlib.Core.Bool.{Bool, true}
 use mathlib.Core.List.{List}
-use Prim.Native.Nat.{ℕ, _+_, _*_, _<_, _≤_, min}
+use Prim.Native.Nat.{ℕ, _+_, _*_, _%_, _<_, _≤_, min}
 use native.Mathlib.Omega.{arith}
 use native.Mathlib.Decide.{ℕ-discrete}
 use borrow.Author.Tests.{ltb-true, leb-true, eqb-true}
@@ -12,11 +12,10 @@ use lib.Seq.{getD-set-same, getD-set-other}
 use Rattle.rows.specs.Row.{nth, every}
 use Rattle.grid.proofs.Tests.{_&_, and-left, and-right}
 use Rattle.rows.proofs.Row.{every-at}
-use Rattle.search.specs.Wires.{Wired, Touches, Least, Wiring}
-use Rattle.search.specs.Inside.{Onward}
+use Rattle.search.specs.Wires.{Wired, Met, branchOf, Least, Wiring}
 use Rattle.search.specs.declared.Wires.{Wires}
 use Rattle.search.proofs.Rows.{blank}
-use Rattle.search.proofs.Links.{onward-least}
+use Rattle.search.proofs.Links.{after-least}
 use Rattle.reroute.specs.Verdicts.{Basic}
 use Rattle.kernel_try.specs.Tried.{Given, Large, Counted, Taken}
 
@@ -88,35 +87,29 @@ buses-wired f s B = record { few = omega arith; size = omega arith; first-in = �
 pub large-of : (f s : List ℕ) (W : Wires) → Wiring 128 256 f s W → Large W
 large-of f s W wiring = record { linked = wiring .linked; buses = wiring .same-buses; branches = wiring .same-branches }
 
--- n branches of bus v were counted below branch k.
-pub record Counting (W : Wires) (v n k : ℕ) : Type 0 where
+-- n branches of bus v were counted below that of `side`.
+pub record Counting (W : Wires) (v n side : ℕ) : Type 0 where
   pub counted : Counted W v
-  pub most : n ≤ k
-  pub top : k ≤ 256
-  pub under : k < 256 → k < W .branches
-  pub touches : k < 256 → Touches (W .first) (W .second) k v
+  pub most : n ≤ branchOf side
+  pub top : side ≤ 512
+  pub under : side < 512 → side % 256 < W .branches
+  pub met : side < 512 → Met (W .first) (W .second) v (side % 256) side
 
 pub counting-row : (W : Wires) (v : ℕ) → Counted W v → v < 128
 counting-row W v C = omega (arith, C .bus, C .linked .wired .few)
 
-from-least : (W : Wires) (v n low k : ℕ) → Counted W v → n ≤ low → Least (W .branches) (W .first) (W .second) low v k → Counting W v n k
-from-least W v n low k C h L = record { counted = C; most = omega (arith, L .above); top = L .top; under = L .under; touches = L .touches }
+from-least : (W : Wires) (v n low side : ℕ) → Counted W v → n ≤ low → Least (W .branches) (W .first) (W .second) low v side → Counting W v n side
+from-least W v n low side C h L = record { counted = C; most = omega (arith, L .above); top = L .top; under = L .under; met = L .met }
 
 pub counting-start : (W : Wires) (v : ℕ) → Counted W v → Counting W v 0 (nth (W .head) v)
 counting-start W v C = from-least W v 0 0 (nth (W .head) v) C (omega arith) (C .linked .lowest v (C .bus))
 
-module _ (W : Wires) (v n k : ℕ) (C : Counting W v n k) (h : k < 256) where
-  pub counting-first : nth (W .first) k < 128
-  counting-first = omega (arith, C .counted .linked .wired .first-in k (C .under h), C .counted .linked .wired .few)
+module _ (W : Wires) (v n side : ℕ) (C : Counting W v n side) (h : side < 512) where
+  pub counting-next : Least (W .branches) (W .first) (W .second) (side % 256 + 1) v (nth (W .after) side)
+  counting-next = after-least W (C .counted .linked) (side % 256) v side (C .under h) (C .met h)
 
-  next : (k′ : ℕ) → Onward v (nth (W .first) k) (nth (W .«after_first») k) (nth (W .«after_second») k) k′ → Least (W .branches) (W .first) (W .second) (k + 1) v k′
-  next k′ O = onward-least W (C .counted .linked) k v k′ (C .under h) (C .touches h) O
-
-  pub counting-more : (k′ : ℕ) → Onward v (nth (W .first) k) (nth (W .«after_first») k) (nth (W .«after_second») k) k′ → Counting W v (n + 1) k′
-  counting-more k′ O = from-least W v (n + 1) (k + 1) k′ (C .counted) (omega (arith, C .most)) (next k′ O)
-
-  pub counting-less : (k′ : ℕ) → Onward v (nth (W .first) k) (nth (W .«after_first») k) (nth (W .«after_second») k) k′ → k + 1 ≤ k′
-  counting-less k′ O = next k′ O .above
+  pub counting-more : Counting W v (n + 1) (nth (W .after) side)
+  counting-more = from-least W v (n + 1) (side % 256 + 1) (nth (W .after) side) (C .counted) (omega (arith, C .most)) counting-next
 
 -- n visits of the buses before place p of the queue.
 pub record Visiting (W : Wires) (q : List ℕ) (t n p : ℕ) : Type 0 where

@@ -78,11 +78,10 @@ fn degree(wires: Wires, bus: usize) -> usize
     ensures { λ r. ⌜ r ≤ 256 ⌝ }
 {
     let mut count: usize = 0;
-    let mut k = wires.head[bus] as usize;
-    while k < 256 {
-        let a = wires.first[k] as usize;
+    let mut side = wires.head[bus] as usize;
+    while side < 512 {
         count += 1;
-        k = search::onward(bus, a, wires.after_first[k], wires.after_second[k]);
+        side = wires.after[side] as usize;
     }
     count
 }

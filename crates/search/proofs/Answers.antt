@@ -1,11 +1,9 @@
 -- From the scan's end to the answer, and from the answer to what a caller that took it apart has.
-use mathlib.Core.Path.{_≡_, subst}
-use mathlib.Core.Bool.{true}
+use mathlib.Core.Path.{_≡_, refl, subst}
 use mathlib.Core.List.{List}
 use Prim.Native.Nat.{ℕ, _<_, _≤_}
 use Rattle.rows.specs.Row.{nth}
-use Rattle.grid.specs.Reach.{onward}
-use Rattle.search.specs.Search.{Scene, scene, Arc, marked, Grouped, Routed, Queued, Said, Searched}
+use Rattle.search.specs.Search.{scene, Grouped, Routed, Queued, Said, Searched}
 use Rattle.search.specs.Inside.{Tree, Packed}
 use Rattle.search.specs.declared.Wires.{Wires}
 use Rattle.search.specs.declared.Work.{Work}
@@ -15,26 +13,30 @@ use Rattle.search.specs.declared.Found.{Found}
 use Rattle.search.proofs.Tree.{tree-queued}
 use Rattle.search.proofs.Scan.{Scan, scan-reached}
 
+-- The same capacities, with the marks and the queue that a search leaves.
+abbrev worked : Work → List ℕ → List ℕ → Work
+worked w m q = record { marks = m; queue = q; ahead = w .ahead; back = w .back }
+
 module _ {W : Wires} {w : Work} {roles m q rooms : List ℕ} where
-  searched : (answer : Search) (t : ℕ) (r : Found) → Tree (scene W (w .ahead) (w .back) roles) m q rooms t → Packed answer t m q w r → Said (scene W (w .ahead) (w .back) roles) m (r .group) answer → Searched W w roles r
+  searched : (answer : Search) (t : ℕ) (r : Found) → Tree (scene W (w .ahead) (w .back) roles) m q rooms t → Packed answer t (worked w m q) r → Said (scene W (w .ahead) (w .back) roles) m (r .group) answer → Searched W w roles r
   searched answer t r T P said =
       record {
-        same-ahead = P .same-ahead;
-        same-back = P .same-back;
-        queued = rw (P .same-marks, P .same-queue, P .same-taken) (tree-queued (scene W (w .ahead) (w .back) roles) m q rooms t T);
-        said = rw (P .same-marks, P .same-answer) said;
+        same-ahead = rw (P .same-work) refl;
+        same-back = rw (P .same-work) refl;
+        queued = rw (P .same-work, P .same-taken) (tree-queued (scene W (w .ahead) (w .back) roles) m q rooms t T);
+        said = rw (P .same-work, P .same-answer) said;
       }
 
   pub searched-group : {h t : ℕ} → Scan W (w .ahead) (w .back) roles m q rooms h t → t ≤ h
-      → {m₁ q₁ : List ℕ} {t₁ : ℕ} {answer : Search} {r : Found} → Packed answer t₁ m₁ q₁ w r → m₁ ≡ m → q₁ ≡ q → t₁ ≡ t → answer ≡ Group → Searched W w roles r
+      → {m₁ q₁ : List ℕ} {t₁ : ℕ} {answer : Search} {r : Found} → Packed answer t₁ (worked w m₁ q₁) r → m₁ ≡ m → q₁ ≡ q → t₁ ≡ t → answer ≡ Group → Searched W w roles r
   searched-group {t = t} S l {r = r} P i j i′ j′ =
-      let P′ : Packed Group t m q w r = rw (i, j, i′, j′) at P in
+      let P′ : Packed Group t (worked w m q) r = rw (i, j, i′, j′) at P in
       searched Group t r (S .tree) P′ (record { reached = scan-reached S l; apart = λ v b. S .apart v; bits = P′ .shown })
 
   pub searched-route : {t v x : ℕ} → Tree (scene W (w .ahead) (w .back) roles) m q rooms t → Routed (scene W (w .ahead) (w .back) roles) m v x
-      → {m₁ q₁ : List ℕ} {t₁ : ℕ} {answer : Search} {r : Found} → Packed answer t₁ m₁ q₁ w r → m₁ ≡ m → q₁ ≡ q → t₁ ≡ t → answer ≡ Route v x → Searched W w roles r
+      → {m₁ q₁ : List ℕ} {t₁ : ℕ} {answer : Search} {r : Found} → Packed answer t₁ (worked w m₁ q₁) r → m₁ ≡ m → q₁ ≡ q → t₁ ≡ t → answer ≡ Route v x → Searched W w roles r
   searched-route {t} {v} {x} T R {r = r} P i j i′ j′ =
-      let P′ : Packed (Route v x) t m q w r = rw (i, j, i′, j′) at P in
+      let P′ : Packed (Route v x) t (worked w m q) r = rw (i, j, i′, j′) at P in
       searched (Route v x) t r T P′ (R, P′ .shown)
 
 module _ {W : Wires} {w : Work} {roles : List ℕ} {r : Found} (S : Searched W w roles r) where
@@ -47,7 +49,3 @@ module _ {W : Wires} {w : Work} {roles : List ℕ} {r : Found} (S : Searched W w
 -- Only buses of the network are marked.
 pub marked-bus : {n t : ℕ} {m q : List ℕ} → Queued n m q t → (v : ℕ) → 0 < nth m v → v < n
 marked-bus {n} Q v h = let p = Q .held v h in subst (λ (u : ℕ). u < n) (p .2) (Q .bus (p .0) (p .1))
-
--- No branch with latent capacity that way leaves the group.
-pub group-closed : (N : Scene) (m g : List ℕ) → Grouped N m g → (k c u v : ℕ) → u < N .buses → marked m u ≡ true → Arc N k c u v → marked m v ≡ true
-group-closed N m g G k c u v b h x = G .reached .complete v (onward (G .reached .sound u b h) (record { branch = k; capacity = c; arc = x }))

@@ -2,7 +2,7 @@
 use mathlib.Core.Path.{_≡_, refl, sym, subst, _∙_}
 use mathlib.Core.List.{List}
 use mathlib.Core.Logic.{_⊎_, inl, inr, ⊎-elim}
-use Prim.Native.Nat.{ℕ, _+_, _<_, _≤_, min}
+use Prim.Native.Nat.{ℕ, _+_, _%_, _<_, _≤_, min}
 use native.Mathlib.Omega.{arith}
 use native.Mathlib.Decide.{ℕ-discrete}
 use borrow.Author.Count.{below-more}
@@ -10,17 +10,16 @@ use borrow.Author.Tests.{lt-ltb, ltb-true}
 use lib.ListN.{length, set, replicate, length-set, getD-replicate}
 use lib.Seq.{getD-set-same, getD-set-other}
 use Rattle.rows.specs.Row.{nth}
-use Rattle.rows.proofs.Sum.{below, equal, above, side}
+use Rattle.rows.proofs.Sum.{below, equal, above, side as order}
 use Rattle.grid.specs.Reach.{Reach, here as begun, onward as led, Reached}
-use Rattle.search.specs.Wires.{Touches, Least, Linked}
+use Rattle.search.specs.Wires.{Touches, Met, at-first, at-second, branchOf, Least, Linked}
 use Rattle.search.specs.Search.{Scene, scene, Way, Arc, Step, Start, marked, Trail, Routed}
 use Rattle.search.specs.Search.Way.{forth, back}
-use Rattle.search.specs.Inside.{Leads, Onward, Tree, Seeded}
+use Rattle.search.specs.Inside.{Leads, Tree, Seeded}
 use Rattle.search.specs.declared.Wires.{Wires}
-use Rattle.search.specs.declared.Seeds.{Seeds}
 use Rattle.search.specs.declared.Lead.{Lead}
 use Rattle.search.proofs.Rows.{either-place, still-positive}
-use Rattle.search.proofs.Links.{onward-least}
+use Rattle.search.proofs.Links.{after-least}
 use Rattle.search.proofs.Tree.{positive, New, link, fit-q, grow, marked-reached}
 use Rattle.search.proofs.Route.{trail-of, room-of}
 
@@ -33,16 +32,16 @@ pub record Scan (W : Wires) (a b roles m q w : List ℕ) (at tail : ℕ) : Type 
   pub apart : (v : ℕ) → 0 < nth m v → nth roles v ≡ 2 → ⊥
   pub closed : (p k c v : ℕ) → p < at → Arc (scene W a b roles) k c (nth q p) v → 0 < nth m v
 
--- So was every branch of bus `here`, at place `at`, below k, which touches `here` or is 256.
-pub record Turn (W : Wires) (a b roles m q w : List ℕ) (at tail here low k : ℕ) : Type 0 where
+-- So was every branch of bus `here`, at place `at`, below that of `side`, which meets it at `here` or is 512.
+pub record Turn (W : Wires) (a b roles m q w : List ℕ) (at tail here low side : ℕ) : Type 0 where
   pub scan : Scan W a b roles m q w at tail
   pub below : at < tail
   pub is-here : nth q at ≡ here
   pub is-low : nth w here ≡ low
-  pub top : k ≤ 256
-  pub under : k < 256 → k < W .branches
-  pub touches : k < 256 → Touches (W .first) (W .second) k here
-  pub done : (j c v : ℕ) → j < k → Arc (scene W a b roles) j c here v → 0 < nth m v
+  pub top : side ≤ 512
+  pub under : side < 512 → side % 256 < W .branches
+  pub met : side < 512 → Met (W .first) (W .second) here (side % 256) side
+  pub done : (j c v : ℕ) → j < branchOf side → Arc (scene W a b roles) j c here v → 0 < nth m v
 
 arc-touches : (N : Scene) (k c u v : ℕ) → Arc N k c u v → Touches (N .first) (N .second) k u
 arc-touches N k c u v x = by (x .way)
@@ -51,7 +50,7 @@ arc-touches N k c u v x = by (x .way)
     by (forth p r e) = inl p
     by (back p r e) = inr p
 
-pub scan-start : {W : Wires} (a b : List ℕ) {roles : List ℕ} {r : Seeds} → Linked W → Seeded (W .buses) roles r → Scan W a b roles (r .marks) (r .queue) (replicate 128 4294967295) 0 (r .count)
+pub scan-start : {W : Wires} (a b : List ℕ) {roles m q : List ℕ} {t : ℕ} → Linked W → Seeded (W .buses) roles m q t → Scan W a b roles m q (replicate 128 4294967295) 0 t
 scan-start {W} a b {roles} K S =
     record {
       linked = K;
@@ -76,37 +75,43 @@ module _ {W : Wires} {a b roles m q w : List ℕ} {h t : ℕ} (S : Scan W a b ro
         is-low = refl;
         top = L .top;
         under = L .under;
-        touches = L .touches;
+        met = L .met;
         done = λ j c v d x. absurd (L .none j (omega arith) d (x .below) (arc-touches (scene W a b roles) j c (nth q h) v x));
       }
 
-module _ {W : Wires} {a b roles m q w : List ℕ} {h t here low k : ℕ} (R : Turn W a b roles m q w h t here low k) (l : k < 256) where
-  pub turn-first : nth (W .first) k < 128
-  turn-first = omega (arith, R .scan .linked .wired .first-in k (R .under l), R .scan .linked .wired .few)
+module _ {W : Wires} {a b roles m q w : List ℕ} {h t here low side : ℕ} (R : Turn W a b roles m q w h t here low side) (l : side < 512) where
+  pub turn-next : Least (W .branches) (W .first) (W .second) (side % 256 + 1) here (nth (W .after) side)
+  turn-next = after-least W (R .scan .linked) (side % 256) here side (R .under l) (R .met l)
 
-  pub turn-second : nth (W .second) k < 128
-  turn-second = omega (arith, R .scan .linked .wired .second-in k (R .under l), R .scan .linked .wired .few)
-
-module _ {W : Wires} {a b roles m q w : List ℕ} {h t here low k : ℕ} {r : Lead} (R : Turn W a b roles m q w h t here low k) (l : k < 256)
-    (S : Leads here (nth (W .first) k) (nth (W .second) k) (nth a k) (nth b k) r) where
+-- k is the branch of the side
+module _ {W : Wires} {a b roles m q w : List ℕ} {h t here low side k : ℕ} {r : Lead} (R : Turn W a b roles m q w h t here low side) (l : side < 512) (is-k : side % 256 ≡ k)
+    (S : Leads side (nth (W .first) k) (nth (W .second) k) (nth a k) (nth b k) r) where
   here-marked : 0 < nth m here
   here-marked = subst (λ (v : ℕ). 0 < nth m v) (R .is-here) (positive (scene W a b roles) m q w h (R .scan .tree .place h (R .below)))
 
+  in-net : k < W .branches
+  in-net = rw is-k at (R .under l)
+
+  in-row : k < 256
+  in-row = omega arith
+
+  met : Met (W .first) (W .second) here k side
+  met = rw is-k at (R .met l)
+
   -- the branch leads from `here` to the bus of `r`
   way : Way (r .spare) here (nth (W .first) k) (nth (W .second) k) (nth a k) (nth b k) (r .bus)
-  way = by (ℕ-discrete (nth (W .first) k) here) (R .touches l)
+  way = by met
     where
-      by : Dec (nth (W .first) k ≡ here) → Touches (W .first) (W .second) k here → Way (r .spare) here (nth (W .first) k) (nth (W .second) k) (nth a k) (nth b k) (r .bus)
-      by (yes e) g = forth e (sym (S .at-first e .0)) (sym (S .at-first e .1))
-      by (no n) (inl e) = absurd (n e)
-      by (no n) (inr e) = back e (sym (S .at-second n .0)) (sym (S .at-second n .1))
+      by : Met (W .first) (W .second) here k side → Way (r .spare) here (nth (W .first) k) (nth (W .second) k) (nth a k) (nth b k) (r .bus)
+      by (at-first e g) = let o = S .from-first (omega (arith, in-row)) in forth g (sym (o .0)) (sym (o .1))
+      by (at-second e g) = let o = S .from-second (omega arith) in back g (sym (o .0)) (sym (o .1))
 
   to-bus : r .bus < W .buses
   to-bus = by way
     where
       by : Way (r .spare) here (nth (W .first) k) (nth (W .second) k) (nth a k) (nth b k) (r .bus) → r .bus < W .buses
-      by (forth p g e) = rw (← g) (R .scan .linked .wired .second-in k (R .under l))
-      by (back p g e) = rw (← g) (R .scan .linked .wired .first-in k (R .under l))
+      by (forth p g e) = rw (← g) (R .scan .linked .wired .second-in k in-net)
+      by (back p g e) = rw (← g) (R .scan .linked .wired .first-in k in-net)
 
   pub to-row : r .bus < 128
   to-row = omega (arith, to-bus, R .scan .linked .wired .few)
@@ -115,41 +120,41 @@ module _ {W : Wires} {a b roles m q w : List ℕ} {h t here low k : ℕ} {r : Le
   covers : (c v : ℕ) → Arc (scene W a b roles) k c here v → (0 < nth m v) ⊎ ((r .bus ≡ v) × (r .spare ≡ c))
   covers c v x = pick (ℕ-discrete v here)
     where
-      ways : (v ≡ here → ⊥) → Dec (nth (W .first) k ≡ here) → Way c here (nth (W .first) k) (nth (W .second) k) (nth a k) (nth b k) v → (r .bus ≡ v) × (r .spare ≡ c)
-      ways d (yes e) (forth p g s) = (S .at-first e .0 ∙ g, S .at-first e .1 ∙ s)
-      ways d (yes e) (back p g s) = absurd (d (sym g ∙ e))
-      ways d (no n) (forth p g s) = absurd (n p)
-      ways d (no n) (back p g s) = (S .at-second n .0 ∙ g, S .at-second n .1 ∙ s)
+      ways : (v ≡ here → ⊥) → Met (W .first) (W .second) here k side → Way c here (nth (W .first) k) (nth (W .second) k) (nth a k) (nth b k) v → (r .bus ≡ v) × (r .spare ≡ c)
+      ways d (at-first e i) (forth p g s) = let o = S .from-first (omega (arith, in-row)) in (o .0 ∙ g, o .1 ∙ s)
+      ways d (at-first e i) (back p g s) = absurd (d (sym g ∙ i))
+      ways d (at-second e i) (forth p g s) = absurd (d (sym g ∙ i))
+      ways d (at-second e i) (back p g s) = let o = S .from-second (omega arith) in (o .0 ∙ g, o .1 ∙ s)
 
       pick : Dec (v ≡ here) → (0 < nth m v) ⊎ ((r .bus ≡ v) × (r .spare ≡ c))
       pick (yes e) = inl (rw e here-marked)
-      pick (no d) = inr (ways d (ℕ-discrete (nth (W .first) k) here) (x .way))
+      pick (no d) = inr (ways d met (x .way))
 
-  pub next : (k′ : ℕ) → Onward here (nth (W .first) k) (nth (W .«after_first») k) (nth (W .«after_second») k) k′ → Least (W .branches) (W .first) (W .second) (k + 1) here k′
-  next k′ O = onward-least W (R .scan .linked) k here k′ (R .under l) (R .touches l) O
+  next : Least (W .branches) (W .first) (W .second) (k + 1) here (nth (W .after) side)
+  next = rw is-k at (turn-next R l)
 
   -- to the next branch of `here`; marks, queue and rooms may have grown
-  step : (m′ q′ w′ : List ℕ) (t′ k′ : ℕ) → Scan W a b roles m′ q′ w′ h t′ → h < t′ → nth q′ h ≡ here → nth w′ here ≡ low → ((v : ℕ) → 0 < nth m v → 0 < nth m′ v)
-      → ((c v : ℕ) → Arc (scene W a b roles) k c here v → 0 < nth m′ v) → Least (W .branches) (W .first) (W .second) (k + 1) here k′ → Turn W a b roles m′ q′ w′ h t′ here low k′
-  step m′ q′ w′ t′ k′ C d e e′ wid last L = record { scan = C; below = d; is-here = e; is-low = e′; top = L .top; under = L .under; touches = L .touches; done = each }
+  step : (m′ q′ w′ : List ℕ) (t′ : ℕ) → Scan W a b roles m′ q′ w′ h t′ → h < t′ → nth q′ h ≡ here → nth w′ here ≡ low → ((v : ℕ) → 0 < nth m v → 0 < nth m′ v)
+      → ((c v : ℕ) → Arc (scene W a b roles) k c here v → 0 < nth m′ v) → Turn W a b roles m′ q′ w′ h t′ here low (nth (W .after) side)
+  step m′ q′ w′ t′ C d e e′ wid last = record { scan = C; below = d; is-here = e; is-low = e′; top = next .top; under = next .under; met = next .met; done = each }
     where
-      each : (j c v : ℕ) → j < k′ → Arc (scene W a b roles) j c here v → 0 < nth m′ v
-      each j c v d′ x = elim (side j k) [
-        | below i ↦ wid v (R .done j c v i x)
+      each : (j c v : ℕ) → j < branchOf (nth (W .after) side) → Arc (scene W a b roles) j c here v → 0 < nth m′ v
+      each j c v d′ x = elim (order j k) [
+        | below i ↦ wid v (R .done j c v (omega arith) x)
         | equal i ↦ last c v (subst (λ (i : ℕ). Arc (scene W a b roles) i c here v) i x)
-        | above i ↦ absurd (L .none j (omega arith) d′ (x .below) (arc-touches (scene W a b roles) j c here v x))
+        | above i ↦ absurd (next .none j (omega arith) d′ (x .below) (arc-touches (scene W a b roles) j c here v x))
       ]
 
   -- a branch that brings nothing new: no latent capacity that way, or a bus that is marked
-  skip : (k′ : ℕ) → Onward here (nth (W .first) k) (nth (W .«after_first») k) (nth (W .«after_second») k) k′ → (0 < r .spare → nth m (r .bus) ≡ 0 → ⊥) → Turn W a b roles m q w h t here low k′
-  skip k′ O f = step m q w t k′ (R .scan) (R .below) (R .is-here) (R .is-low) (λ v g. g) last (next k′ O)
+  skip : (0 < r .spare → nth m (r .bus) ≡ 0 → ⊥) → Turn W a b roles m q w h t here low (nth (W .after) side)
+  skip f = step m q w t (R .scan) (R .below) (R .is-here) (R .is-low) (λ v g. g) last
     where
       last : (c v : ℕ) → Arc (scene W a b roles) k c here v → 0 < nth m v
       last c v x = ⊎-elim (λ g. g) (λ e. subst (λ (u : ℕ). 0 < nth m u) (e .0) (let n = f (rw (e .1) (x .some)) in omega arith)) (covers c v x)
 
-  pub turn-skip : (k′ : ℕ) → Onward here (nth (W .first) k) (nth (W .«after_first») k) (nth (W .«after_second») k) k′ → (0 < r .spare → nth m (r .bus) ≡ 0 → ⊥)
-      → {m₁ q₁ w₁ : List ℕ} {t₁ : ℕ} → m₁ ≡ m → q₁ ≡ q → t₁ ≡ t → w₁ ≡ w → Turn W a b roles m₁ q₁ w₁ h t₁ here low k′
-  turn-skip k′ O f i j l′ i′ = rw (i, j, l′, i′) (skip k′ O f)
+  pub turn-skip : (0 < r .spare → nth m (r .bus) ≡ 0 → ⊥)
+      → {m₁ q₁ w₁ : List ℕ} {t₁ : ℕ} → m₁ ≡ m → q₁ ≡ q → t₁ ≡ t → w₁ ≡ w → Turn W a b roles m₁ q₁ w₁ h t₁ here low (nth (W .after) side)
+  turn-skip f i j l′ i′ = rw (i, j, l′, i′) (skip f)
 
   -- a bus that is new
   module _ (some : 0 < r .spare) (z : nth m (r .bus) ≡ 0) (least : ℕ) (is-least : least ≡ min low (r .spare)) where
@@ -163,7 +168,7 @@ module _ {W : Wires} {a b roles m q w : List ℕ} {h t here low k : ℕ} {r : Le
     long-w = length-set w (r .bus) least ∙ R .scan .tree .wide
 
     arc : Arc (scene W a b roles) k (r .spare) (nth q h) (r .bus)
-    arc = record { below = R .under l; some = some; way = rw (R .is-here) way }
+    arc = record { below = in-net; some = some; way = rw (R .is-here) way }
 
     new-link : New (scene W a b roles) q w t (r .bus) (k + 2) (nth (set w (r .bus) least) (r .bus))
     new-link = link h k (r .spare) (R .below) arc refl (rw (new-room, R .is-here, R .is-low) is-least)
@@ -220,25 +225,23 @@ module _ {W : Wires} {a b roles m q w : List ℕ} {h t here low k : ℕ} {r : Le
     here-old : here ≡ r .bus → ⊥
     here-old e = let g : 0 < nth m (r .bus) = subst (λ (v : ℕ). 0 < nth m v) e here-marked in omega arith
 
-    pub turn-mark : (k′ : ℕ) → Onward here (nth (W .first) k) (nth (W .«after_first») k) (nth (W .«after_second») k) k′ → (nth roles (r .bus) ≡ 2 → ⊥)
-        → {m₁ q₁ w₁ : List ℕ} {t₁ : ℕ} → m₁ ≡ set m (r .bus) (k + 2) → q₁ ≡ set q t (r .bus) → t₁ ≡ t + 1 → w₁ ≡ set w (r .bus) least → Turn W a b roles m₁ q₁ w₁ h t₁ here low k′
-    turn-mark k′ O f i j l′ i′ =
+    pub turn-mark : (nth roles (r .bus) ≡ 2 → ⊥)
+        → {m₁ q₁ w₁ : List ℕ} {t₁ : ℕ} → m₁ ≡ set m (r .bus) (k + 2) → q₁ ≡ set q t (r .bus) → t₁ ≡ t + 1 → w₁ ≡ set w (r .bus) least → Turn W a b roles m₁ q₁ w₁ h t₁ here low (nth (W .after) side)
+    turn-mark f i j l′ i′ =
         rw (i, j, l′, i′) (step
         (set m (r .bus) (k + 2))
         (set q t (r .bus))
         (set w (r .bus) least)
         (t + 1)
-        k′
         (turn-scan f)
         (omega (arith, R .below))
         (queue-old h (R .below) ∙ R .is-here)
         (keep here here-old ∙ R .is-low)
         wider
-        turn-done
-        (next k′ O))
+        turn-done)
 
-pub turn-end : {W : Wires} {a b roles m q w : List ℕ} {h t here low k : ℕ} → Turn W a b roles m q w h t here low k → 256 ≤ k → Scan W a b roles m q w (h + 1) t
-turn-end {W} {a} {b} {roles} {m} {q} {w} {h} {t} {here} {low} {k} R l =
+pub turn-end : {W : Wires} {a b roles m q w : List ℕ} {h t here low side : ℕ} → Turn W a b roles m q w h t here low side → 512 ≤ side → Scan W a b roles m q w (h + 1) t
+turn-end {W} {a} {b} {roles} {m} {q} {w} {h} {t} {here} {low} {side} R l =
     record {
       linked = R .scan .linked;
       tree = R .scan .tree;

@@ -10,7 +10,6 @@ use lib.Seq.{getD-set-same, getD-set-other}
 use Rattle.rows.specs.Row.{nth}
 use Rattle.search.specs.Search.{Scene}
 use Rattle.search.specs.Inside.{Tree, Blank, Seeded}
-use Rattle.search.specs.declared.Work.{Work}
 use Rattle.search.proofs.Rows.{blank, either-place, still-positive}
 use Rattle.search.proofs.Tree.{seed, grow}
 
@@ -25,16 +24,16 @@ pub record Sow (n : ℕ) (roles m q : List ℕ) (t v : ℕ) : Type 0 where
   pub seeds : (u : ℕ) → u < v → nth roles u ≡ 1 → 0 < nth m u
   pub apart : (u : ℕ) → 0 < nth m u → nth roles u ≡ 2 → ⊥
 
-pub sow-none : {n : ℕ} {roles : List ℕ} {w : Work} → Blank n w → length (w .queue) ≡ 128 → Sow n roles (w .marks) (w .queue) 0 0
-sow-none B e = rw (B .blank) (record {
+pub sow-none : {n : ℕ} {roles m q : List ℕ} → Blank n m q → Sow n roles m q 0 0
+sow-none B = rw (B .blank) (record {
   few = B .few;
   within = omega arith;
   long = refl;
-  slots = e;
+  slots = B .slots;
   less = omega arith;
   tree = λ N w same roled wide full. record {
     long = refl;
-    slots = e;
+    slots = B .slots;
     wide = wide;
     small = omega (arith, B .few);
     count = refl;
@@ -87,5 +86,5 @@ module _ {n : ℕ} {roles m q : List ℕ} {t v : ℕ} (S : Sow n roles m q t v) 
         no-goal : nth roles v ≡ 2 → ⊥
         no-goal r = omega arith
 
-pub sow-end : {n : ℕ} {roles m q : List ℕ} {t v : ℕ} → Sow n roles m q t v → n ≤ v → Seeded n roles (record { marks = m; queue = q; count = t })
+pub sow-end : {n : ℕ} {roles m q : List ℕ} {t v : ℕ} → Sow n roles m q t v → n ≤ v → Seeded n roles m q t
 sow-end S l = record { tree = S .tree; seeds = λ u b e. S .seeds u (omega arith) e; apart = S .apart }

@@ -9,18 +9,12 @@ use Rattle.search.specs.declared.Work.{Work}
 use Rattle.search.specs.declared.Search.{Search}
 use Rattle.search.specs.declared.Search.the-variants.{Route, Group}
 use Rattle.search.specs.declared.Found.{Found}
-use Rattle.search.specs.declared.Seeds.{Seeds}
 use Rattle.search.specs.declared.Lead.{Lead}
 
--- `leads`: from a bus at one end of a branch to the other end, with the latent capacity that way.
-pub record Leads (here a b x y : ℕ) (r : Lead) : Type 0 where
-  pub at-first : a ≡ here → (r .bus ≡ b) × (r .spare ≡ x)
-  pub at-second : (a ≡ here → ⊥) → (r .bus ≡ a) × (r .spare ≡ y)
-
--- `onward`: the next branch of a bus at one end of a branch.
-pub record Onward (here a x y r : ℕ) : Type 0 where
-  pub at-first : a ≡ here → r ≡ x
-  pub at-second : (a ≡ here → ⊥) → r ≡ y
+-- `leads`: from the end of a branch that a side meets to the other end, with the latent capacity that way.
+pub record Leads (side a b x y : ℕ) (r : Lead) : Type 0 where
+  pub from-first : side < 256 → (r .bus ≡ b) × (r .spare ≡ x)
+  pub from-second : 256 ≤ side → (r .bus ≡ a) × (r .spare ≡ y)
 
 -- The bus at place p of the queue is a start, or is joined by the branch of its mark to a bus at an earlier place; w has the room of each bus.
 pub data Placed (N : Scene) (m q w : List ℕ) (p : ℕ) : Type 0 where
@@ -48,15 +42,16 @@ pub record Tree (N : Scene) (m q w : List ℕ) (t : ℕ) : Type 0 where
   pub held : (v : ℕ) → 0 < nth m v → (p : ℕ) × (p < t) × (nth q p ≡ v)
   pub once : (p p′ : ℕ) → p < p′ → p′ < t → nth q p ≡ nth q p′ → ⊥
 
--- `seed`: it asks for marks of 0, and gives a tree of starts alone, whatever the branches are, in which every start is marked and no goal.
-pub record Blank (n : ℕ) (w : Work) : Type 0 where
+-- `seed`: it asks for marks of 0 and a whole queue, and gives a tree of starts alone, whatever the branches are, in which every start is marked and no goal.
+pub record Blank (n : ℕ) (m q : List ℕ) : Type 0 where
   pub few : n ≤ 128
-  pub blank : w .marks ≡ replicate 128 0
+  pub blank : m ≡ replicate 128 0
+  pub slots : length q ≡ 128
 
-pub record Seeded (n : ℕ) (roles : List ℕ) (r : Seeds) : Type 0 where
-  pub tree : (N : Scene) (w : List ℕ) → N .buses ≡ n → N .roles ≡ roles → length w ≡ 128 → ((v : ℕ) → v < 128 → nth w v ≡ 4294967295) → Tree N (r .marks) (r .queue) w (r .count)
-  pub seeds : (v : ℕ) → v < n → nth roles v ≡ 1 → 0 < nth (r .marks) v
-  pub apart : (v : ℕ) → 0 < nth (r .marks) v → nth roles v ≡ 2 → ⊥
+pub record Seeded (n : ℕ) (roles m q : List ℕ) (t : ℕ) : Type 0 where
+  pub tree : (N : Scene) (w : List ℕ) → N .buses ≡ n → N .roles ≡ roles → length w ≡ 128 → ((v : ℕ) → v < 128 → nth w v ≡ 4294967295) → Tree N m q w t
+  pub seeds : (v : ℕ) → v < n → nth roles v ≡ 1 → 0 < nth m v
+  pub apart : (v : ℕ) → 0 < nth m v → nth roles v ≡ 2 → ⊥
 
 -- 1 for a number above 0.
 abbrev pub flagOf : ℕ → ℕ
@@ -73,11 +68,8 @@ Shown (Route v r) m g = g ≡ replicate 16 0
 Shown Group m g = Bits m g
 
 -- `packed`: the parts of an answer, with the group's bits beside it.
-pub record Packed (answer : Search) (t : ℕ) (m q : List ℕ) (w : Work) (r : Found) : Type 0 where
+pub record Packed (answer : Search) (t : ℕ) (w : Work) (r : Found) : Type 0 where
   pub same-answer : r .answer ≡ answer
   pub same-taken : r .taken ≡ t
-  pub same-marks : r .work .marks ≡ m
-  pub same-queue : r .work .queue ≡ q
-  pub same-ahead : r .work .ahead ≡ w .ahead
-  pub same-back : r .work .back ≡ w .back
-  pub shown : Shown answer m (r .group)
+  pub same-work : r .work ≡ w
+  pub shown : Shown answer (w .marks) (r .group)

@@ -2,7 +2,7 @@
 use mathlib.Core.Path.{_≡_}
 use mathlib.Core.List.{List}
 use mathlib.Core.Logic.{_⊎_}
-use Prim.Native.Nat.{ℕ, _+_, _<_, _≤_}
+use Prim.Native.Nat.{ℕ, _+_, _*_, _/_, _%_, _<_, _≤_}
 use Rattle.rows.specs.Row.{nth}
 use Rattle.search.specs.declared.Wires.{Wires}
 
@@ -17,20 +17,29 @@ pub record Wired (buses branches : ℕ) (f s : List ℕ) : Type 0 where
 abbrev pub Touches : List ℕ → List ℕ → ℕ → ℕ → Type 0
 Touches f s k v = (nth f k ≡ v) ⊎ (nth s k ≡ v)
 
--- r is the least branch from `low` to below n that touches v, or 256 with none.
-pub record Least (n : ℕ) (f s : List ℕ) (low v r : ℕ) : Type 0 where
-  pub above : low ≤ r
-  pub top : r ≤ 256
-  pub under : r < 256 → r < n
-  pub touches : r < 256 → Touches f s r v
-  pub none : (j : ℕ) → low ≤ j → j < r → j < n → Touches f s j v → ⊥
+-- Branch k is met at bus v by a side: k itself at its first end, k + 256 at its second.
+pub data Met (f s : List ℕ) (v k side : ℕ) : Type 0 where
+  at-first : side ≡ k → nth f k ≡ v → Met f s v k side
+  at-second : side ≡ k + 256 → nth s k ≡ v → Met f s v k side
 
--- `head` of a bus is its lowest branch; at each end of a branch stands the next one of that end's bus.
+-- The branch of a side; of 512, which is none, 256.
+abbrev pub branchOf : ℕ → ℕ
+branchOf side = side % 256 + 256 * (side / 512)
+
+-- `side` meets at v the least branch from `low` to below n that touches v, or is 512 with none.
+pub record Least (n : ℕ) (f s : List ℕ) (low v side : ℕ) : Type 0 where
+  pub top : side ≤ 512
+  pub above : low ≤ branchOf side
+  pub under : side < 512 → side % 256 < n
+  pub met : side < 512 → Met f s v (side % 256) side
+  pub none : (j : ℕ) → low ≤ j → j < branchOf side → j < n → Touches f s j v → ⊥
+
+-- `head` of a bus is the side of its lowest branch; after each side of a branch stands the next one at the same bus.
 pub record Linked (W : Wires) : Type 0 where
   pub wired : Wired (W .buses) (W .branches) (W .first) (W .second)
   pub lowest : (v : ℕ) → v < W .buses → Least (W .branches) (W .first) (W .second) 0 v (nth (W .head) v)
-  pub next-first : (k : ℕ) → k < W .branches → Least (W .branches) (W .first) (W .second) (k + 1) (nth (W .first) k) (nth (W .«after_first») k)
-  pub next-second : (k : ℕ) → k < W .branches → Least (W .branches) (W .first) (W .second) (k + 1) (nth (W .second) k) (nth (W .«after_second») k)
+  pub next-first : (k : ℕ) → k < W .branches → Least (W .branches) (W .first) (W .second) (k + 1) (nth (W .first) k) (nth (W .after) k)
+  pub next-second : (k : ℕ) → k < W .branches → Least (W .branches) (W .first) (W .second) (k + 1) (nth (W .second) k) (nth (W .after) (k + 256))
 
 -- What `link` gives: the rows as they were, linked.
 pub record Wiring (buses branches : ℕ) (f s : List ℕ) (W : Wires) : Type 0 where

@@ -2,19 +2,20 @@
 // What is public here serves the crates above alone, which meet what it requires.
 ghost use Rattle.search.specs.Wires.{Wired, Wiring};
 ghost use Rattle.search.specs.Search.{Bits, Searchable, Searched};
-ghost use Rattle.search.specs.Inside.{Leads, Onward, Blank, Seeded, flagOf, Byte, Packed};
+ghost use Rattle.search.specs.Inside.{Leads, Blank, Seeded, flagOf, Byte, Packed};
 ghost use Prim.Native.Nat.{_<_, _≤_, _+_, min};
 ghost use mathlib.Core.Path.{_≡_};
 
-// The ends of the branches, and links that give the branches of a bus in rising number; 256 is none.
+// The ends of the branches, and links that give the branches of a bus in rising number.
+// A link is a side: k is branch k met at its first end, 256 + k is branch k met at its second end, 512 is none.
+// So the scan finds the next side by one load, and knows which end it met without a comparison of buses.
 pub struct Wires {
     pub buses: usize,
     pub branches: usize,
     pub first: [u8; 256],
     pub second: [u8; 256],
     pub head: [u16; 128],
-    pub after_first: [u16; 256],
-    pub after_second: [u16; 256],
+    pub after: [u16; 512],
 }
 
 // What one search works on: marks, all 0 at first, the queue, and the latent capacity of each branch either way.
@@ -38,12 +39,6 @@ pub struct Found {
     pub work: Work,
 }
 
-struct Seeds {
-    marks: [u16; 128],
-    queue: [u8; 128],
-    count: usize,
-}
-
 struct Lead {
     bus: usize,
     spare: u32,
@@ -55,23 +50,22 @@ pub fn smaller(x: u32, y: u32) -> u32
     if x < y { x } else { y }
 }
 
-// From the highest branch down, so that `head` always holds the next one of its bus.
+// From the highest branch down, so that `head` always holds the next side at its bus.
 pub fn link(buses: usize, branches: usize, first: [u8; 256], second: [u8; 256]) -> Wires
     requires { ⌜ Wired buses branches first second ⌝ }
     ensures { λ r. ⌜ Wiring buses branches first second r ⌝ }
 {
-    let mut head = [256u16; 128];
-    let mut after_first = [256u16; 256];
-    let mut after_second = [256u16; 256];
+    let mut head = [512u16; 128];
+    let mut after = [512u16; 512];
     let mut k = branches;
     while k > 0 {
         k -= 1;
         let a = first[k] as usize;
         let b = second[k] as usize;
-        after_first[k] = head[a];
-        after_second[k] = head[b];
+        after[k] = head[a];
+        after[k + 256] = head[b];
         head[a] = k as u16;
-        head[b] = k as u16;
+        head[b] = (k + 256) as u16;
     }
     Wires {
         buses,
@@ -79,35 +73,31 @@ pub fn link(buses: usize, branches: usize, first: [u8; 256], second: [u8; 256]) 
         first,
         second,
         head,
-        after_first,
-        after_second,
+        after,
     }
 }
 
-fn leads(here: usize, a: usize, b: usize, x: u32, y: u32) -> Lead
-    ensures { λ r. ⌜ Leads here a b x y r ⌝ }
+fn leads(side: usize, a: u8, b: u8, x: u32, y: u32) -> Lead
+    ensures { λ r. ⌜ Leads side a b x y r ⌝ }
 {
-    if a == here {
-        Lead { bus: b, spare: x }
+    if side < 256 {
+        Lead {
+            bus: b as usize,
+            spare: x,
+        }
     } else {
-        Lead { bus: a, spare: y }
+        Lead {
+            bus: a as usize,
+            spare: y,
+        }
     }
 }
 
-// The next branch of a bus at one end of a branch.
-pub fn onward(here: usize, a: usize, x: u16, y: u16) -> usize
-    ensures { λ r. ⌜ Onward here a x y r ⌝ }
+// Every start is marked 1 and queued; the answer is how many there are.
+fn seed(buses: usize, roles: &[u8; 128], marks: &mut [u16; 128], queue: &mut [u8; 128]) -> usize
+    requires { ⌜ Blank buses (now marks) (now queue) ⌝ }
+    ensures { λ r. ⌜ Seeded buses (now (roles .entry)) (now (marks .exit)) (now (queue .exit)) r ⌝ }
 {
-    if a == here { x as usize } else { y as usize }
-}
-
-// Every start is marked 1 and queued.
-fn seed(buses: usize, roles: [u8; 128], work: Work) -> Seeds
-    requires { ⌜ Blank buses work ⌝ }
-    ensures { λ r. ⌜ Seeded buses roles r ⌝ }
-{
-    let mut marks = work.marks;
-    let mut queue = work.queue;
     let mut count: usize = 0;
     let mut v: usize = 0;
     while v < buses {
@@ -118,11 +108,7 @@ fn seed(buses: usize, roles: [u8; 128], work: Work) -> Seeds
         }
         v += 1;
     }
-    Seeds {
-        marks,
-        queue,
-        count,
-    }
+    count
 }
 
 fn flag(mark: u16) -> u8
@@ -132,9 +118,9 @@ fn flag(mark: u16) -> u8
 }
 
 // Eight marks as the bits of a byte, the first of them the highest.
-fn byte(marks: [u16; 128], at: usize) -> u8
+fn byte(marks: &[u16; 128], at: usize) -> u8
     requires { ⌜ at + 8 ≤ 128 ⌝ }
-    ensures { λ r. ⌜ Byte marks at r ⌝ }
+    ensures { λ r. ⌜ Byte (now (marks .entry)) at r ⌝ }
 {
     let mut x: u8 = 0;
     let mut i: usize = 0;
@@ -145,8 +131,8 @@ fn byte(marks: [u16; 128], at: usize) -> u8
     x
 }
 
-fn bits(marks: [u16; 128]) -> [u8; 16]
-    ensures { λ r. ⌜ Bits marks r ⌝ }
+fn bits(marks: &[u16; 128]) -> [u8; 16]
+    ensures { λ r. ⌜ Bits (now (marks .entry)) r ⌝ }
 {
     let mut group = [0u8; 16];
     let mut j: usize = 0;
@@ -157,37 +143,29 @@ fn bits(marks: [u16; 128]) -> [u8; 16]
     group
 }
 
-fn packed(answer: Search, taken: usize, marks: [u16; 128], queue: [u8; 128], work: Work) -> Found
-    ensures { λ r. ⌜ Packed answer taken marks queue work r ⌝ }
+fn packed(answer: Search, taken: usize, work: Work) -> Found
+    ensures { λ r. ⌜ Packed answer taken work r ⌝ }
 {
-    let ahead = work.ahead;
-    let back = work.back;
     let group = match answer {
         Search::Route { goal: _, room: _ } => [0u8; 16],
-        Search::Group => bits(marks),
+        Search::Group => bits(&work.marks),
     };
     Found {
         answer,
         taken,
         group,
-        work: Work {
-            marks,
-            queue,
-            ahead,
-            back,
-        },
+        work,
     }
 }
 
 // From the buses of role 1, over latent capacity, to the first bus of role 2.
-pub fn explore(wires: Wires, work: Work, roles: [u8; 128]) -> Found
+pub fn explore(wires: Wires, mut work: Work, roles: [u8; 128]) -> Found
     requires { ⌜ Searchable wires work ⌝ }
     ensures { λ r. ⌜ Searched wires work roles r ⌝ }
 {
-    let seeds = seed(wires.buses, roles, work);
-    let mut marks = seeds.marks;
-    let mut queue = seeds.queue;
-    let mut tail = seeds.count;
+    let mut marks = work.marks;
+    let mut queue = work.queue;
+    let mut tail = seed(wires.buses, &roles, &mut marks, &mut queue);
     let mut room = [4294967295u32; 128];
     let mut at: usize = 0;
     let answer = 'scan: loop {
@@ -196,11 +174,12 @@ pub fn explore(wires: Wires, work: Work, roles: [u8; 128]) -> Found
         }
         let here = queue[at] as usize;
         let low = room[here];
-        let mut k = wires.head[here] as usize;
-        while k < 256 {
-            let a = wires.first[k] as usize;
-            let b = wires.second[k] as usize;
-            let lead = leads(here, a, b, work.ahead[k], work.back[k]);
+        let mut side = wires.head[here] as usize;
+        while side < 512 {
+            let k = side % 256;
+            let a = wires.first[k];
+            let b = wires.second[k];
+            let lead = leads(side, a, b, work.ahead[k], work.back[k]);
             let to = lead.bus;
             if lead.spare > 0 && marks[to] == 0 {
                 let least = smaller(low, lead.spare);
@@ -215,9 +194,12 @@ pub fn explore(wires: Wires, work: Work, roles: [u8; 128]) -> Found
                     };
                 }
             }
-            k = onward(here, a, wires.after_first[k], wires.after_second[k]);
+            side = wires.after[side] as usize;
         }
         at += 1;
     };
-    packed(answer, tail, marks, queue, work)
+    // The work goes back as it came but for these two: a new one would copy the capacities once more.
+    work.marks = marks;
+    work.queue = queue;
+    packed(answer, tail, work)
 }

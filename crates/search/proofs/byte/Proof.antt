@@ -7,10 +7,10 @@ use Rattle.search.proofs.byte.Statement.{statement}
 use Rattle.search.proofs.byte.Tie as tie
 
 abbrev Inv-loop : tie.InvT-loop
-Inv-loop at marks x₀ i₀ x i = Packing marks at x i
+Inv-loop marks at x₀ i₀ x i = Packing marks at x i
 
 abbrev μ-loop : tie.MeasureT-loop
-μ-loop at marks x₀ i₀ x i = 8 - i
+μ-loop marks at x₀ i₀ x i = 8 - i
 
 loop-holds : tie.Need-loop-holds Inv-loop μ-loop
 loop-holds c = packing-none
@@ -24,14 +24,14 @@ add-flag c = omega arith
 mul-flag : tie.Need-mul-flag Inv-loop μ-loop
 mul-flag c = omega arith
 
-array-read-flag : tie.Need-array-read-flag Inv-loop μ-loop
-array-read-flag c = omega arith
+element-copy-out-flag : tie.Need-element-copy-out-flag Inv-loop μ-loop
+element-copy-out-flag c = omega arith
 
 flag-requires : tie.Need-flag-requires Inv-loop μ-loop
 flag-requires c κs = search needs
 
 add-x : tie.Need-add-x Inv-loop μ-loop
-add-x c = omega (arith, packing-fits (c .before .before .loop .inv) (c .before .loop-test .taken) (c .flag .ensures))
+add-x c = omega (arith, packing-fits (c .before .before .before .loop .inv) (c .before .before .loop-test .taken) (c .flag .ensures))
 
 add-i : tie.Need-add-i Inv-loop μ-loop
 add-i c = omega arith
@@ -40,7 +40,7 @@ loop-less : tie.Need-loop-less Inv-loop μ-loop
 loop-less c = omega arith
 
 loop-again : tie.Need-loop-again Inv-loop μ-loop
-loop-again c = packing-more (c .before .before .loop .inv) (c .before .loop-test .taken) (c .flag .ensures)
+loop-again c = packing-more (c .before .before .before .loop .inv) (c .before .before .loop-test .taken) (c .flag .ensures)
 
 returns : tie.Need-returns Inv-loop μ-loop
 returns c = packing-end (c .before .loop .inv) (c .loop-test .left)
@@ -55,7 +55,7 @@ byte-spec =
     mul-x
     add-flag
     mul-flag
-    array-read-flag
+    element-copy-out-flag
     flag-requires
     add-x
     add-i

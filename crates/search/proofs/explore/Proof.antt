@@ -1,21 +1,22 @@
 -- Between queued buses, and between the branches of one, the laws of `Scan` carry the search; each way out is one law of `Answers`.
 use Prim.Native.Nat.{_-_, _<_}
-use mathlib.Core.Path.{_≡_}
+use mathlib.Core.Path.{_≡_, refl}
 use borrow.Author.Needs.{needs}
 use native.Mathlib.Omega.{arith}
 use mathlib.Core.Logic.{⊎-elim}
 use borrow.Author.Tests.{eqb-true, eqb-false}
 use Rattle.rows.specs.Row.{nth}
-use Rattle.search.proofs.Scan.{Scan, Turn, scan-start, here-bus, turn-start, turn-first, turn-second, to-row, next, turn-skip, turn-room, turn-tree, turn-hit, turn-mark, turn-end}
+use Rattle.search.specs.Wires.{branchOf}
+use Rattle.search.proofs.Scan.{Scan, Turn, scan-start, here-bus, turn-start, turn-next, to-row, turn-skip, turn-room, turn-tree, turn-hit, turn-mark, turn-end}
 use Rattle.search.proofs.Answers.{searched-group, searched-route}
 use Rattle.search.proofs.explore.Statement.{statement}
 use Rattle.search.proofs.explore.Tie as tie
 
 abbrev Inv-loop : tie.InvT-loop
-Inv-loop wires work roles marks₀ queue₀ tail₀ room₀ at here low k₀ marks queue tail room k = Turn wires (work .ahead) (work .back) roles marks queue room at tail here low k
+Inv-loop wires work roles marks₀ queue₀ tail₀ room₀ at here low side₀ marks queue tail room side = Turn wires (work .ahead) (work .back) roles marks queue room at tail here low side
 
 abbrev μ-loop : tie.MeasureT-loop
-μ-loop wires work roles marks₀ queue₀ tail₀ room₀ at here low k₀ marks queue tail room k = 256 - k
+μ-loop wires work roles marks₀ queue₀ tail₀ room₀ at here low side₀ marks queue tail room side = 256 - branchOf side
 
 abbrev Inv-scan : tie.InvT-scan
 Inv-scan wires work roles marks₀ queue₀ tail₀ room₀ at₀ marks queue tail room at = Scan wires (work .ahead) (work .back) roles marks queue room at tail
@@ -27,23 +28,23 @@ abbrev μ-scan : tie.MeasureT-scan
 bus-here : (c : tie.Else1 Inv-loop μ-loop Inv-scan μ-scan) → nth (c .before .scan .queue) (c .before .scan .at) < 128
 bus-here c = here-bus (c .before .scan .inv) (c .if1 .left)
 
-in-row : (c : tie.In-loop Inv-loop μ-loop Inv-scan μ-scan) → c .before .loop .k < 256
+in-row : (c : tie.In-loop Inv-loop μ-loop Inv-scan μ-scan) → c .before .loop .side < 512
 in-row c = omega arith
 
 bus-there : (c : tie.After-leads Inv-loop μ-loop Inv-scan μ-scan) → c .leads .result .bus < 128
-bus-there c = to-row (c .before .before .before .before .before .before .loop .inv) (in-row (c .before .before .before .before .before)) (c .leads .ensures)
+bus-there c = to-row (c .before .before .before .before .before .before .loop .inv) (in-row (c .before .before .before .before .before)) refl (c .leads .ensures)
 
 unmarked : (c : tie.Then3 Inv-loop μ-loop Inv-scan μ-scan) → nth (c .before .before .before .before .before .before .before .before .before .loop .marks) (c .before .before .before .leads .result .bus) ≡ 0
 unmarked c = eqb-true _ _ (c .if3 .taken)
 
 place-left : (c : tie.After-smaller Inv-loop μ-loop Inv-scan μ-scan) → c .before .before .before .before .before .before .before .before .before .before .loop .tail < 128
-place-left c = turn-room (c .before .before .before .before .before .before .before .before .before .before .loop .inv) (in-row (c .before .before .before .before .before .before .before .before .before)) (c .before .before .before .before .leads .ensures) (c .before .before .if2 .taken) (unmarked (c .before)) _ (c .smaller .ensures)
+place-left c = turn-room (c .before .before .before .before .before .before .before .before .before .before .loop .inv) (in-row (c .before .before .before .before .before .before .before .before .before)) refl (c .before .before .before .before .leads .ensures) (c .before .before .if2 .taken) (unmarked (c .before)) _ (c .smaller .ensures)
 
 seed-requires : tie.Need-seed-requires Inv-loop μ-loop Inv-scan μ-scan
-seed-requires c κs = record { few = c .pre .linked .wired .few; blank = c .pre .blank }
+seed-requires c κs = record { few = c .before .before .before .before .before .pre .linked .wired .few; blank = c .before .before .before .before .before .pre .blank; slots = search needs }
 
 scan-holds : tie.Need-scan-holds Inv-loop μ-loop Inv-scan μ-scan
-scan-holds c = scan-start _ _ (c .before .before .before .pre .linked) (c .before .before .seed .ensures)
+scan-holds c = scan-start _ _ (c .before .before .before .before .before .before .pre .linked) (c .seed .ensures)
 
 array-read-here : tie.Need-array-read-here Inv-loop μ-loop Inv-scan μ-scan
 array-read-here c = omega arith
@@ -57,14 +58,14 @@ mul-low c = omega (arith, bus-here c)
 array-read-low : tie.Need-array-read-low Inv-loop μ-loop Inv-scan μ-scan
 array-read-low c = omega (arith, bus-here c)
 
-mul-k : tie.Need-mul-k Inv-loop μ-loop Inv-scan μ-scan
-mul-k c = omega (arith, bus-here c)
+mul-side : tie.Need-mul-side Inv-loop μ-loop Inv-scan μ-scan
+mul-side c = omega (arith, bus-here c)
 
-element-copy-out-k : tie.Need-element-copy-out-k Inv-loop μ-loop Inv-scan μ-scan
-element-copy-out-k c = omega (arith, bus-here c)
+element-copy-out-side : tie.Need-element-copy-out-side Inv-loop μ-loop Inv-scan μ-scan
+element-copy-out-side c = omega (arith, bus-here c)
 
-cast-k : tie.Need-cast-k Inv-loop μ-loop Inv-scan μ-scan
-cast-k c = omega (arith, turn-start (c .before .before .scan .inv) (c .before .if1 .left) .top)
+cast-side : tie.Need-cast-side Inv-loop μ-loop Inv-scan μ-scan
+cast-side c = omega (arith, turn-start (c .before .before .scan .inv) (c .before .if1 .left) .top)
 
 loop-holds : tie.Need-loop-holds Inv-loop μ-loop Inv-scan μ-scan
 loop-holds c = turn-start (c .before .before .scan .inv) (c .before .if1 .left)
@@ -72,14 +73,8 @@ loop-holds c = turn-start (c .before .before .scan .inv) (c .before .if1 .left)
 element-copy-out-a : tie.Need-element-copy-out-a Inv-loop μ-loop Inv-scan μ-scan
 element-copy-out-a c = omega arith
 
-cast-a : tie.Need-cast-a Inv-loop μ-loop Inv-scan μ-scan
-cast-a c = omega (arith, turn-first (c .before .before .loop .inv) (in-row (c .before)))
-
 element-copy-out-b : tie.Need-element-copy-out-b Inv-loop μ-loop Inv-scan μ-scan
 element-copy-out-b c = omega arith
-
-cast-b : tie.Need-cast-b Inv-loop μ-loop Inv-scan μ-scan
-cast-b c = omega (arith, turn-second (c .before .before .before .loop .inv) (in-row (c .before .before)))
 
 mul-leads : tie.Need-mul-leads Inv-loop μ-loop Inv-scan μ-scan
 mul-leads c = omega arith
@@ -135,33 +130,27 @@ add-tail c = omega (arith, place-left c)
 array-read-if4 : tie.Need-array-read-if4 Inv-loop μ-loop Inv-scan μ-scan
 array-read-if4 c = omega (arith, bus-there (c .before .before .before .before))
 
-mul-onward : tie.Need-mul-onward Inv-loop μ-loop Inv-scan μ-scan
-mul-onward c = omega arith
+mul-side-2 : tie.Need-mul-side-2 Inv-loop μ-loop Inv-scan μ-scan
+mul-side-2 c = omega arith
 
-element-copy-out-onward : tie.Need-element-copy-out-onward Inv-loop μ-loop Inv-scan μ-scan
-element-copy-out-onward c = omega arith
+element-copy-out-side-2 : tie.Need-element-copy-out-side-2 Inv-loop μ-loop Inv-scan μ-scan
+element-copy-out-side-2 c = omega arith
 
-mul-onward-2 : tie.Need-mul-onward-2 Inv-loop μ-loop Inv-scan μ-scan
-mul-onward-2 c = omega arith
-
-element-copy-out-onward-2 : tie.Need-element-copy-out-onward-2 Inv-loop μ-loop Inv-scan μ-scan
-element-copy-out-onward-2 c = omega arith
-
-onward-requires : tie.Need-onward-requires Inv-loop μ-loop Inv-scan μ-scan
-onward-requires c κs = search needs
+cast-side-2 : tie.Need-cast-side-2 Inv-loop μ-loop Inv-scan μ-scan
+cast-side-2 c = omega (arith, turn-next (c .before .before .before .before .before .before .before .before .before .loop .inv) (in-row (c .before .before .before .before .before .before .before .before)) .top)
 
 loop-less : tie.Need-loop-less Inv-loop μ-loop Inv-scan μ-scan
-loop-less c = omega (arith, next (c .before .before .before .before .before .before .before .before .before .before .before .loop .inv) (in-row (c .before .before .before .before .before .before .before .before .before .before)) (c .before .before .before .before .before .leads .ensures) _ (c .onward .ensures) .above)
+loop-less c = omega (arith, turn-next (c .before .before .before .before .before .before .before .before .before .loop .inv) (in-row (c .before .before .before .before .before .before .before .before)) .above)
 
 loop-again : tie.Need-loop-again Inv-loop μ-loop Inv-scan μ-scan
 loop-again c =
     ⊎-elim
-    (λ w. turn-mark (c .before .before .before .before .before .before .before .before .before .before .before .loop .inv) (in-row (c .before .before .before .before .before .before .before .before .before .before)) (c .before .before .before .before .before .leads .ensures) (w .0 .taken) (eqb-true _ _ (w .1 .taken)) _ (w .2 .ensures) _ (c .onward .ensures) (w .3 .left) (w .4) (w .5) (w .6) (w .7))
+    (λ w. turn-mark (c .before .before .before .before .before .before .before .before .before .loop .inv) (in-row (c .before .before .before .before .before .before .before .before)) refl (c .before .before .before .leads .ensures) (w .0 .taken) (eqb-true _ _ (w .1 .taken)) _ (w .2 .ensures) (w .3 .left) (w .4) (w .5) (w .6) (w .7))
     (λ w. ⊎-elim
-    (λ u. turn-skip (c .before .before .before .before .before .before .before .before .before .before .before .loop .inv) (in-row (c .before .before .before .before .before .before .before .before .before .before)) (c .before .before .before .before .before .leads .ensures) _ (c .onward .ensures) (λ g. eqb-false _ _ (u .1 .left)) (w .1) (w .2) (w .3) (w .4))
-    (λ u. turn-skip (c .before .before .before .before .before .before .before .before .before .before .before .loop .inv) (in-row (c .before .before .before .before .before .before .before .before .before .before)) (c .before .before .before .before .before .leads .ensures) _ (c .onward .ensures) (λ g. absurd (omega arith)) (w .1) (w .2) (w .3) (w .4))
+    (λ u. turn-skip (c .before .before .before .before .before .before .before .before .before .loop .inv) (in-row (c .before .before .before .before .before .before .before .before)) refl (c .before .before .before .leads .ensures) (λ g. eqb-false _ _ (u .1 .left)) (w .1) (w .2) (w .3) (w .4))
+    (λ u. turn-skip (c .before .before .before .before .before .before .before .before .before .loop .inv) (in-row (c .before .before .before .before .before .before .before .before)) refl (c .before .before .before .leads .ensures) (λ g. absurd (omega arith)) (w .1) (w .2) (w .3) (w .4))
     (w .0 .came))
-    (c .before .before .before .if2 .came)
+    (c .before .if2 .came)
 
 add-at : tie.Need-add-at Inv-loop μ-loop Inv-scan μ-scan
 add-at c = omega arith
@@ -180,8 +169,8 @@ returns c =
     ⊎-elim
     (λ w. searched-group (c .before .before .scan .inv) (w .0 .taken) (c .packed .ensures) (w .1) (w .2) (w .3) (w .4))
     (λ w. searched-route
-    (turn-tree (w .2 .inv) (w .3 .taken) (w .8 .ensures) (w .10 .taken) (eqb-true _ _ (w .11 .taken)) _ (w .12 .ensures))
-    (turn-hit (w .2 .inv) (w .3 .taken) (w .8 .ensures) (w .10 .taken) (eqb-true _ _ (w .11 .taken)) _ (w .12 .ensures) (w .13 .taken))
+    (turn-tree (w .2 .inv) (w .3 .taken) refl (w .8 .ensures) (w .10 .taken) (eqb-true _ _ (w .11 .taken)) _ (w .12 .ensures))
+    (turn-hit (w .2 .inv) (w .3 .taken) refl (w .8 .ensures) (w .10 .taken) (eqb-true _ _ (w .11 .taken)) _ (w .12 .ensures) (w .13 .taken))
     (c .packed .ensures) (w .14) (w .15) (w .16) (w .17))
     (c .before .if1 .came)
 
@@ -199,14 +188,12 @@ explore-spec =
     cast-here
     mul-low
     array-read-low
-    mul-k
-    element-copy-out-k
-    cast-k
+    mul-side
+    element-copy-out-side
+    cast-side
     loop-holds
     element-copy-out-a
-    cast-a
     element-copy-out-b
-    cast-b
     mul-leads
     element-copy-out-leads
     mul-leads-2
@@ -225,11 +212,9 @@ explore-spec =
     array-write-room
     add-tail
     array-read-if4
-    mul-onward
-    element-copy-out-onward
-    mul-onward-2
-    element-copy-out-onward-2
-    onward-requires
+    mul-side-2
+    element-copy-out-side-2
+    cast-side-2
     loop-less
     loop-again
     add-at

@@ -6,10 +6,10 @@ use Rattle.search.proofs.link.Statement.{statement}
 use Rattle.search.proofs.link.Tie as tie
 
 abbrev Inv-loop : tie.InvT-loop
-Inv-loop buses branches first second head₀ after-first₀ after-second₀ k₀ head after-first after-second k = Chained buses branches first second head after-first after-second k
+Inv-loop buses branches first second head₀ after₀ k₀ head after k = Chained buses branches first second head after k
 
 abbrev μ-loop : tie.MeasureT-loop
-μ-loop buses branches first second head₀ after-first₀ after-second₀ k₀ head after-first after-second k = k
+μ-loop buses branches first second head₀ after₀ k₀ head after k = k
 
 loop-holds : tie.Need-loop-holds Inv-loop μ-loop
 loop-holds c = chained-none (c .pre)
@@ -29,29 +29,32 @@ array-read-b c = omega arith
 cast-b : tie.Need-cast-b Inv-loop μ-loop
 cast-b c = search needs
 
-mul-after-first : tie.Need-mul-after-first Inv-loop μ-loop
-mul-after-first c = omega (arith, chain-first (c .before .loop .inv) (omega arith))
+mul-after : tie.Need-mul-after Inv-loop μ-loop
+mul-after c = omega (arith, chain-first (c .before .loop .inv) (omega arith))
 
-array-read-after-first : tie.Need-array-read-after-first Inv-loop μ-loop
-array-read-after-first c = omega (arith, chain-first (c .before .loop .inv) (omega arith))
+array-read-after : tie.Need-array-read-after Inv-loop μ-loop
+array-read-after c = omega (arith, chain-first (c .before .loop .inv) (omega arith))
 
-mul-after-first-2 : tie.Need-mul-after-first-2 Inv-loop μ-loop
-mul-after-first-2 c = omega arith
+mul-after-2 : tie.Need-mul-after-2 Inv-loop μ-loop
+mul-after-2 c = omega arith
 
-array-write-after-first : tie.Need-array-write-after-first Inv-loop μ-loop
-array-write-after-first c = omega arith
+array-write-after : tie.Need-array-write-after Inv-loop μ-loop
+array-write-after c = omega arith
 
-mul-after-second : tie.Need-mul-after-second Inv-loop μ-loop
-mul-after-second c = omega (arith, chain-second (c .before .loop .inv) (omega arith))
+mul-after-3 : tie.Need-mul-after-3 Inv-loop μ-loop
+mul-after-3 c = omega (arith, chain-second (c .before .loop .inv) (omega arith))
 
-array-read-after-second : tie.Need-array-read-after-second Inv-loop μ-loop
-array-read-after-second c = omega (arith, chain-second (c .before .loop .inv) (omega arith))
+array-read-after-2 : tie.Need-array-read-after-2 Inv-loop μ-loop
+array-read-after-2 c = omega (arith, chain-second (c .before .loop .inv) (omega arith))
 
-mul-after-second-2 : tie.Need-mul-after-second-2 Inv-loop μ-loop
-mul-after-second-2 c = omega arith
+add-after : tie.Need-add-after Inv-loop μ-loop
+add-after c = omega arith
 
-array-write-after-second : tie.Need-array-write-after-second Inv-loop μ-loop
-array-write-after-second c = omega arith
+mul-after-4 : tie.Need-mul-after-4 Inv-loop μ-loop
+mul-after-4 c = omega arith
+
+array-write-after-2 : tie.Need-array-write-after-2 Inv-loop μ-loop
+array-write-after-2 c = omega arith
 
 cast-head : tie.Need-cast-head Inv-loop μ-loop
 cast-head c = omega arith
@@ -61,6 +64,9 @@ mul-head c = omega (arith, chain-first (c .before .loop .inv) (omega arith))
 
 array-write-head : tie.Need-array-write-head Inv-loop μ-loop
 array-write-head c = omega (arith, chain-first (c .before .loop .inv) (omega arith))
+
+add-head : tie.Need-add-head Inv-loop μ-loop
+add-head c = omega arith
 
 cast-head-2 : tie.Need-cast-head-2 Inv-loop μ-loop
 cast-head-2 c = omega arith
@@ -92,17 +98,19 @@ link-spec =
     cast-a
     array-read-b
     cast-b
-    mul-after-first
-    array-read-after-first
-    mul-after-first-2
-    array-write-after-first
-    mul-after-second
-    array-read-after-second
-    mul-after-second-2
-    array-write-after-second
+    mul-after
+    array-read-after
+    mul-after-2
+    array-write-after
+    mul-after-3
+    array-read-after-2
+    add-after
+    mul-after-4
+    array-write-after-2
     cast-head
     mul-head
     array-write-head
+    add-head
     cast-head-2
     mul-head-2
     array-write-head-2

@@ -14,10 +14,10 @@ bits-requires : tie.Need-bits-requires
 bits-requires c κs = search needs
 
 returns : tie.Need-returns
-returns c = record { same-answer = refl; same-taken = refl; same-marks = refl; same-queue = refl; same-ahead = refl; same-back = refl; shown = rw (c .enum-told .given .1) refl }
+returns c = record { same-answer = refl; same-taken = refl; same-work = refl; shown = rw (c .enum-told .given .1) refl }
 
 returns-2 : tie.Need-returns-2
-returns-2 c = record { same-answer = refl; same-taken = refl; same-marks = refl; same-queue = refl; same-ahead = refl; same-back = refl; shown = rw (c .before .enum-told2 .given .1) (c .bits .ensures) }
+returns-2 c = record { same-answer = refl; same-taken = refl; same-work = refl; shown = rw (c .before .before .before .enum-told2 .given .1) (c .bits .ensures) }
 
 pub packed-spec : {M : Type 1} → statement M
 packed-spec = tie.close (tie.spec enum-told enum-told-2 bits-requires returns returns-2)
