@@ -1,4 +1,4 @@
-// The text of an answer, added to a line.
+// The text of a group and that of an answer, added to a line.
 ghost use mathlib.Core.List.{_++_};
 ghost use Prim.Native.Nat.{_+_, _≤_};
 ghost use lib.ListN.{length};
@@ -11,7 +11,7 @@ use rows::number_of;
 use rows::shortage_of;
 
 // The number of buses in the group, and these in rising order.
-fn put_group(out: &mut [u8], at: usize, group: [u8; 16]) -> usize
+pub fn put_group(out: &mut [u8], at: usize, group: [u8; 16]) -> usize
     requires { ⌜ at + 2709 ≤ length (now out) ⌝ }
     ensures { λ r. ⌜ Added (groupText group) (now (out .entry)) at (now (out .exit)) r ⌝ }
     ensures { λ r. ⌜ r ≤ at + 2709 ⌝ }

@@ -5,8 +5,11 @@ ghost use lib.ListN.{length};
 ghost use Rattle.line.specs.Text.{Added, decimalOf, signedOf, hexOf, nextOf, numbersOf, signedsOf, hexesOf};
 
 mod answer;
+mod writing;
 
 pub use answer::put_answer;
+pub use answer::put_group;
+pub use writing::write_line;
 
 fn put_byte(out: &mut [u8], at: usize, byte: u8) -> usize
     requires { ⌜ at + 1 ≤ length (now out) ⌝ }
@@ -29,9 +32,10 @@ pub fn put(out: &mut [u8], at: usize, text: &[u8]) -> usize
     at + i
 }
 
-fn put_decimal(out: &mut [u8], at: usize, n: u64) -> usize
+pub fn put_decimal(out: &mut [u8], at: usize, n: u64) -> usize
     requires { ⌜ at + 20 ≤ length (now out) ⌝ }
     ensures { λ r. ⌜ Added (decimalOf n) (now (out .entry)) at (now (out .exit)) r ⌝ }
+    ensures { λ r. ⌜ r ≤ at + 20 ⌝ }
 {
     let mut digits = [0u8; 20];
     let k = io::decimal(n, &mut digits);

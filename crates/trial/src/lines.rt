@@ -2,21 +2,14 @@
 ghost use mathlib.Core.Path.{_≡_};
 ghost use Prim.Native.Nat.{_+_, _*_, _<_, _≤_};
 ghost use lib.ListN.{length};
-use libc::STDOUT_FILENO;
 use line::put;
 use line::put_answer;
 use line::put_hexes;
 use line::put_next;
 use line::put_numbers;
 use line::put_signeds;
+use line::write_line;
 use rows::Answer;
-
-fn write_line(out: &mut [u8], at: usize)
-    requires { ⌜ at + 1 ≤ length (now out) ⌝ }
-{
-    let end = put(out, at, b"\n");
-    io::write_all(STDOUT_FILENO, &out[..end]);
-}
 
 // A word and the answer: its number, the shortage, the group.
 pub fn answer_line(word: &[u8], answer: Answer)

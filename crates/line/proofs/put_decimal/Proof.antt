@@ -30,7 +30,8 @@ returns c =
     let p = c .before .before in
     let d = p .before .before .before in
     let w = d .decimal .ensures .1 in
-    added-same (w .1 ∙ fewest-decimal 20 _ _ (few-decimal _ _ (omega arith) (w .0)) (w .0)) (p .put .ensures)
+    let h : d .decimal .result ≤ 20 = few-decimal _ _ (omega arith) (w .0) in
+    (added-same (w .1 ∙ fewest-decimal 20 _ _ h (w .0)) (p .put .ensures), omega (arith, h, d .decimal .ensures .0 .1, p .put .ensures .ends))
 
 pub put-decimal-spec : {M : Type 1} → statement M
 put-decimal-spec =

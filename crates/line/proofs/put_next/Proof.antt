@@ -1,7 +1,6 @@
 use borrow.Author.Needs.{needs}
 use native.Mathlib.Omega.{arith}
 use Rattle.line.proofs.Adding.{added-then}
-use Rattle.line.proofs.Digits.{length-digits}
 use Rattle.line.proofs.put_next.Statement.{statement}
 use Rattle.line.proofs.put_next.Tie as tie
 
@@ -18,7 +17,7 @@ returns : tie.Need-returns
 returns c =
     let d = c .before .before in
     let b = d .before .before .before .before in
-    (added-then (b .put-byte .ensures) (d .put-decimal .ensures), omega (arith, b .put-byte .ensures .ends, d .put-decimal .ensures .ends, length-digits 20 (b .before .before .before .args .n)))
+    (added-then (b .put-byte .ensures) (d .put-decimal .ensures .0), omega (arith, b .put-byte .ensures .ends, d .put-decimal .ensures .1))
 
 pub put-next-spec : {M : Type 1} → statement M
 put-next-spec = tie.close (tie.spec put-byte-requires put-decimal-requires same-length returns)

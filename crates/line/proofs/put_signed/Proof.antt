@@ -47,7 +47,7 @@ returns-2 c =
     let p = c .before .before in
     let q = p .before .before .before .before in
     let e = q .before .before .before in
-    added-same (signed-below (e .before .before .before .args .n) _ (rw (toZ-ofZ (e .before .before .before .fits .n)) at (e .before .below .ensures)) (e .if1 .left)) (added-then (q .put .ensures) (p .put-decimal .ensures))
+    added-same (signed-below (e .before .before .before .args .n) _ (rw (toZ-ofZ (e .before .before .before .fits .n)) at (e .before .below .ensures)) (e .if1 .left)) (added-then (q .put .ensures) (p .put-decimal .ensures .0))
 
 pub put-signed-spec : {M : Type 1} → statement M
 put-signed-spec =

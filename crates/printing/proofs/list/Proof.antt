@@ -15,14 +15,8 @@ abbrev μ-loop : tie.MeasureT-loop
 head-of-requires : tie.Need-head-of-requires Inv-loop μ-loop
 head-of-requires c κs = search needs
 
-number-requires : tie.Need-number-requires Inv-loop μ-loop
-number-requires c κs = search needs
-
-next-requires : tie.Need-next-requires Inv-loop μ-loop
-next-requires c κs = search needs
-
-end-line-requires : tie.Need-end-line-requires Inv-loop μ-loop
-end-line-requires c κs = search needs
+print-head-requires : tie.Need-print-head-requires Inv-loop μ-loop
+print-head-requires c κs = search needs
 
 loop-holds : tie.Need-loop-holds Inv-loop μ-loop
 loop-holds c = (omega arith, omega arith)
@@ -30,8 +24,8 @@ loop-holds c = (omega arith, omega arith)
 read-at-requires : tie.Need-read-at-requires Inv-loop μ-loop
 read-at-requires c κs = search needs
 
-branch-requires : tie.Need-branch-requires Inv-loop μ-loop
-branch-requires c κs = search needs
+print-branch-requires : tie.Need-print-branch-requires Inv-loop μ-loop
+print-branch-requires c κs = search needs
 
 add-k : tie.Need-add-k Inv-loop μ-loop
 add-k c = omega arith
@@ -52,12 +46,10 @@ list-spec =
     Inv-loop
     μ-loop
     head-of-requires
-    number-requires
-    next-requires
-    end-line-requires
+    print-head-requires
     loop-holds
     read-at-requires
-    branch-requires
+    print-branch-requires
     add-k
     loop-less
     loop-again

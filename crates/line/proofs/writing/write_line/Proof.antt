@@ -2,8 +2,8 @@ use borrow.Author.Needs.{needs}
 use native.Mathlib.Omega.{arith}
 use mathlib.Core.Path.{sym}
 use lib.Seq.{length-take-le}
-use Rattle.trial.proofs.lines.write_line.Statement.{statement}
-use Rattle.trial.proofs.lines.write_line.Tie as tie
+use Rattle.line.proofs.writing.write_line.Statement.{statement}
+use Rattle.line.proofs.writing.write_line.Tie as tie
 
 slice-aggregate-put : tie.Need-slice-aggregate-put
 slice-aggregate-put c = search needs
@@ -24,7 +24,7 @@ same-length : tie.Need-same-length
 same-length c = search needs
 
 returns : tie.Need-returns
-returns c = search needs
+returns c = let p = c .before .before .before .before .put .ensures in rw (p .ends) at p
 
 pub write-line-spec : {M : Type 1} → statement M
 write-line-spec =

@@ -1,0 +1,89 @@
+use borrow.Author.Needs.{needs}
+use native.Mathlib.Omega.{arith}
+use Rattle.line.proofs.Adding.{added-same, added-then}
+use Rattle.printing.proofs.Texts.{shown-out, shown-carries, shown-short}
+use Rattle.printing.proofs.lines.put_branch.Statement.{statement}
+use Rattle.printing.proofs.lines.put_branch.Tie as tie
+
+put-decimal-requires : tie.Need-put-decimal-requires
+put-decimal-requires c κs = search needs
+
+slice-aggregate-put : tie.Need-slice-aggregate-put
+slice-aggregate-put c = search needs
+
+put-requires : tie.Need-put-requires
+put-requires c κs = search needs
+
+same-length : tie.Need-same-length
+same-length c = search needs
+
+returns : tie.Need-returns
+returns c =
+    let word = c .before .before in
+    let test = word .before .before .before in
+    let number = test .before .before .before in (
+      added-then (number .put-decimal .ensures .0) (added-same (shown-out (number .before .before .before .before .args .shown) (test .if1 .taken)) (word .put .ensures)),
+      omega (arith, number .put-decimal .ensures .1, word .put .ensures .ends),
+    )
+
+slice-aggregate-put-2 : tie.Need-slice-aggregate-put-2
+slice-aggregate-put-2 c = search needs
+
+put-requires-2 : tie.Need-put-requires-2
+put-requires-2 c κs = search needs
+
+same-length-2 : tie.Need-same-length-2
+same-length-2 c = search needs
+
+returns-2 : tie.Need-returns-2
+returns-2 c =
+    let word = c .before .before in
+    let test = word .before .before .before in
+    let number = test .before .before .before .before in (
+      added-then (number .put-decimal .ensures .0)
+          (added-same (shown-carries (number .before .before .before .before .args .shown) (test .before .if1 .left) (test .if2 .taken)) (word .put2 .ensures)),
+      omega (arith, number .put-decimal .ensures .1, word .put2 .ensures .ends),
+    )
+
+slice-aggregate-put-3 : tie.Need-slice-aggregate-put-3
+slice-aggregate-put-3 c = search needs
+
+put-requires-3 : tie.Need-put-requires-3
+put-requires-3 c κs = search needs
+
+put-short-requires : tie.Need-put-short-requires
+put-short-requires c κs = search needs
+
+same-length-3 : tie.Need-same-length-3
+same-length-3 c = search needs
+
+returns-3 : tie.Need-returns-3
+returns-3 c =
+    let short = c .before .before in
+    let word = short .before .before .before .before in
+    let test = word .before .before .before in
+    let number = test .before .before .before .before in (
+      added-then (number .put-decimal .ensures .0)
+          (added-same (shown-short (number .before .before .before .before .args .shown) (test .before .if1 .left) (test .if2 .left))
+          (added-then (word .put3 .ensures) (short .put-short .ensures .0))),
+      omega (arith, number .put-decimal .ensures .1, word .put3 .ensures .ends, short .put-short .ensures .1),
+    )
+
+pub put-branch-spec : {M : Type 1} → statement M
+put-branch-spec =
+    tie.close
+    (tie.spec
+    put-decimal-requires
+    slice-aggregate-put
+    put-requires
+    same-length
+    returns
+    slice-aggregate-put-2
+    put-requires-2
+    same-length-2
+    returns-2
+    slice-aggregate-put-3
+    put-requires-3
+    put-short-requires
+    same-length-3
+    returns-3)

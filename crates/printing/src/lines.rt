@@ -1,0 +1,66 @@
+// The lines of document 01's list, each built in lent bytes from their first place on: where it ends comes back.
+ghost use Prim.Native.Nat.{_+_, _≤_};
+ghost use lib.ListN.{length};
+ghost use Rattle.line.specs.Text.{Added};
+ghost use Rattle.printing.specs.Lines.{headText, shortText, branchText, refusedText};
+use line::put;
+use line::put_decimal;
+use line::put_group;
+use line::put_next;
+use record::Shown;
+use rows::Answer;
+use rows::number_of;
+use rows::shortage_of;
+
+pub fn put_head(out: &mut [u8], buses: usize, branches: usize) -> usize
+    requires { ⌜ 41 ≤ length (now out) ⌝ }
+    ensures { λ r. ⌜ Added (headText buses branches) (now (out .entry)) 0 (now (out .exit)) r ⌝ }
+    ensures { λ r. ⌜ r ≤ 41 ⌝ }
+{
+    let after = put_decimal(out, 0, buses as u64);
+    put_next(out, after, branches as u64)
+}
+
+// Shortage, number of buses in the group, and these in rising order.
+fn put_short(out: &mut [u8], at: usize, shortage: u32, group: [u8; 16]) -> usize
+    requires { ⌜ at + 2730 ≤ length (now out) ⌝ }
+    ensures { λ r. ⌜ Added (shortText shortage group) (now (out .entry)) at (now (out .exit)) r ⌝ }
+    ensures { λ r. ⌜ r ≤ at + 2730 ⌝ }
+{
+    let after = put_next(out, at, shortage as u64);
+    put_group(out, after, group)
+}
+
+pub fn put_branch(out: &mut [u8], k: usize, shown: Shown) -> usize
+    requires { ⌜ 2756 ≤ length (now out) ⌝ }
+    ensures { λ r. ⌜ Added (branchText k shown) (now (out .entry)) 0 (now (out .exit)) r ⌝ }
+    ensures { λ r. ⌜ r ≤ 2756 ⌝ }
+{
+    let verdict = shown.verdict;
+    let group = shown.group;
+    let after_number = put_decimal(out, 0, k as u64);
+    if verdict == 0 {
+        return put(out, after_number, b" out");
+    }
+    if verdict == 1 {
+        return put(out, after_number, b" carries");
+    }
+    let after_word = put(out, after_number, b" short");
+    put_short(out, after_word, shown.shortage, group)
+}
+
+pub fn put_refused(out: &mut [u8], answer: Answer) -> usize
+    requires { ⌜ 2758 ≤ length (now out) ⌝ }
+    ensures { λ r. ⌜ Added (refusedText answer) (now (out .entry)) 0 (now (out .exit)) r ⌝ }
+    ensures { λ r. ⌜ r ≤ 2758 ⌝ }
+{
+    let outcome = answer.outcome;
+    let group = answer.group;
+    let number = number_of(outcome);
+    let after_word = put(out, 0, b"refused");
+    let after_number = put_next(out, after_word, number as u64);
+    if number == 12 {
+        return put_short(out, after_number, shortage_of(outcome), group);
+    }
+    after_number
+}
