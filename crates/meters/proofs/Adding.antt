@@ -1,6 +1,6 @@
 -- The totals of the buses passed so far.
 use mathlib.Core.Path.{_≡_, refl}
-use mathlib.Core.Bool.{Bool, true, false, _&&_, _||_}
+use mathlib.Core.Bool.{Bool, true, false, _||_}
 use Prim.Native.Nat.{ℕ, _+_, _*_, _<_, _≤_}
 use native.Mathlib.Omega.{arith}
 use native.Mathlib.Numerals.{add-one}
@@ -8,7 +8,7 @@ use borrow.Author.Tests.{eq-eqb, ne-eqb, lt-ltb, le-ltb}
 use lib.Dec.{ltb}
 use Rattle.rows.specs.Row.{some}
 use Rattle.rows.specs.Sum.{over, pick}
-use Rattle.rows.proofs.Row.{some-none, some-more, some-at, or-true}
+use Rattle.rows.proofs.Row.{some-none, some-more, some-at, or-true, and-false}
 use Rattle.meters.specs.Registers.{Registers, buses, imported, exported, others, tooFar}
 use Rattle.meters.specs.Inside.{Even, totalsOf}
 use Rattle.meters.specs.declared.Totals.the-variants.{Sums, TooFar}
@@ -34,11 +34,7 @@ module _ (R : Registers) where
 
   near-by : (i : ℕ) → imported R i ≤ 1000000 → exported R i ≤ 1000000 → tooFar R i ≡ false
   unfolding tooFar
-  near-by i a b = rw (le-ltb 1000000 (imported R i) a, le-ltb 1000000 (exported R i) b) (go (others R i))
-    where
-      go : (t : Bool) → t && false ≡ false
-      go true = refl
-      go false = refl
+  near-by i a b = rw (le-ltb 1000000 (imported R i) a, le-ltb 1000000 (exported R i) b) (and-false (others R i))
 
   far-off : (i : ℕ) → (i ≡ R .supply → ⊥) → (ltb 1000000 (imported R i) || ltb 1000000 (exported R i)) ≡ true → tooFar R i ≡ true
   unfolding tooFar

@@ -11,7 +11,7 @@ use lib.Dec.{eqb}
 use lib.IntN.{ℤ}
 use lib.ListN.{length, getD}
 use Rattle.rows.specs.Row.{nth, some}
-use Rattle.rows.proofs.Row.{some-at, some-never, or-true, both-true}
+use Rattle.rows.proofs.Row.{some-at, some-never, or-true, and-false, both-true}
 use Rattle.rows.specs.Bit.{has, bitAt}
 use Rattle.bits.specs.Field.{setBit}
 use Rattle.bits.proofs.Bits.{bit-same, bit-other}
@@ -111,10 +111,6 @@ module _ (C : Case) (served : List Bool) (touched : List ℕ) (T : ℕ → Type 
     count = e;
   }
     where
-      no : (x : Bool) → (x && false) ≡ false
-      no true = refl
-      no false = refl
-
       off : (k : ℕ) → k < C .branches → (Shortlisted C table T k → C .served k ≡ true → ⊥) → (s : Bool) → C .served k ≡ s → (listedAt served touched table k && getD served k false) ≡ false
       off k u h true e = rw (unlisted k u (λ l. h l e)) refl
-      off k u h false e = rw (served-is k, e) (no (listedIf false touched table k))
+      off k u h false e = rw (served-is k, e) (and-false (listedIf false touched table k))

@@ -10,6 +10,7 @@ use Rattle.rows.specs.Row.{nth}
 use Rattle.rows.specs.Bit.{has}
 use Rattle.rows.specs.Sum.{Group, all, pick, over}
 use Rattle.rows.proofs.Sum.{over-add, over-same, over-zero, over-all, over-term, side, below, equal, above}
+use Rattle.rows.proofs.Row.{and-false}
 use Rattle.grid.specs.Net.{Net, gains, loads, without}
 use Rattle.grid.specs.Flow.{Flow, Within, Balanced, at-end}
 use Rattle.grid.proofs.Cut.{Settled, upper, whole}
@@ -30,11 +31,7 @@ module _ (W : Wires) (live a b named : List ℕ) (k : ℕ) (P : Losable W live a
   keep j = has named j && not (eqb j k)
 
   keep-k : keep k ≡ false
-  keep-k = rw (eq-eqb k k refl) (go (has named k))
-    where
-      go : (t : Bool) → t && false ≡ false
-      go true = refl
-      go false = refl
+  keep-k = rw (eq-eqb k k refl) (and-false (has named k))
 
   data Kind (j : ℕ) : Type 0 where
     kept : (j ≡ k → ⊥) → has named j ≡ true → keep j ≡ true → rest keep k j ≡ false → Kind j

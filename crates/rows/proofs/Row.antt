@@ -108,6 +108,10 @@ pub or-true : (a : Bool) → a || true ≡ true
 or-true true = refl
 or-true false = refl
 
+pub and-false : (a : Bool) → a && false ≡ false
+and-false true = refl
+and-false false = refl
+
 module _ (p : ℕ → Bool) where
   pub some-none : some 0 p ≡ false
   unfolding some
