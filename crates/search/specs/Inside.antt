@@ -9,12 +9,6 @@ use Rattle.search.specs.declared.Work.{Work}
 use Rattle.search.specs.declared.Search.{Search}
 use Rattle.search.specs.declared.Search.the-variants.{Route, Group}
 use Rattle.search.specs.declared.Found.{Found}
-use Rattle.search.specs.declared.Lead.{Lead}
-
--- `leads`: from the end of a branch that a side meets to the other end, with the latent capacity that way.
-pub record Leads (side a b x y : ℕ) (r : Lead) : Type 0 where
-  pub from-first : side < 256 → (r .bus ≡ b) × (r .spare ≡ x)
-  pub from-second : 256 ≤ side → (r .bus ≡ a) × (r .spare ≡ y)
 
 -- The bus at place p of the queue is a start, or is joined by the branch of its mark to a bus at an earlier place; w has the room of each bus.
 pub data Placed (N : Scene) (m q w : List ℕ) (p : ℕ) : Type 0 where
