@@ -29,7 +29,11 @@ pub struct Work {
 }
 
 pub enum Search {
-    Route { goal: usize, room: u32 },
+    Route {
+        goal: usize,
+        room: u32,
+        start: usize,
+    },
     Group,
 }
 
@@ -85,10 +89,16 @@ fn latent(side: usize, x: u32, y: u32) -> u32
     if side < 256 { x } else { y }
 }
 
-// Every start is marked 1 and queued; the answer is how many there are.
-fn seed(buses: usize, roles: &[u8; 128], marks: &mut [u16; 128], queue: &mut [u8; 128]) -> usize
-    requires { ⌜ Blank buses (now marks) (now queue) ⌝ }
-    ensures { λ r. ⌜ Seeded buses (now (roles .entry)) (now (marks .exit)) (now (queue .exit)) r ⌝ }
+// Every start is marked 1, queued and its own origin; the answer is how many there are.
+fn seed(
+    buses: usize,
+    roles: &[u8; 128],
+    marks: &mut [u16; 128],
+    queue: &mut [u8; 128],
+    origin: &mut [u8; 128],
+) -> usize
+    requires { ⌜ Blank buses (now marks) (now queue) (now origin) ⌝ }
+    ensures { λ r. ⌜ Seeded buses (now (roles .entry)) (now (marks .exit)) (now (queue .exit)) (now (origin .exit)) r ⌝ }
 {
     let mut count: usize = 0;
     let mut v: usize = 0;
@@ -96,6 +106,7 @@ fn seed(buses: usize, roles: &[u8; 128], marks: &mut [u16; 128], queue: &mut [u8
         if roles[v] == 1 {
             marks[v] = 1;
             queue[count] = v as u8;
+            origin[v] = v as u8;
             count += 1;
         }
         v += 1;
@@ -139,7 +150,11 @@ fn packed(answer: Search, taken: usize, work: Work) -> Found
     ensures { λ r. ⌜ Packed answer taken work r ⌝ }
 {
     let group = match answer {
-        Search::Route { goal: _, room: _ } => [0u8; 16],
+        Search::Route {
+            goal: _,
+            room: _,
+            start: _,
+        } => [0u8; 16],
         Search::Group => bits(&work.marks),
     };
     Found {
@@ -157,7 +172,8 @@ pub fn explore(wires: Wires, mut work: Work, roles: [u8; 128]) -> Found
 {
     let mut marks = work.marks;
     let mut queue = work.queue;
-    let mut tail = seed(wires.buses, &roles, &mut marks, &mut queue);
+    let mut origin = [0u8; 128];
+    let mut tail = seed(wires.buses, &roles, &mut marks, &mut queue, &mut origin);
     let mut room = [4294967295u32; 128];
     let mut at: usize = 0;
     let answer = 'scan: loop {
@@ -173,14 +189,17 @@ pub fn explore(wires: Wires, mut work: Work, roles: [u8; 128]) -> Found
             let spare = latent(side, work.ahead[k], work.back[k]);
             if spare > 0 && marks[to] == 0 {
                 let least = smaller(low, spare);
+                let start = origin[here] as usize;
                 marks[to] = (k + 2) as u16;
                 queue[tail] = to as u8;
                 room[to] = least;
+                origin[to] = start as u8;
                 tail += 1;
                 if roles[to] == 2 {
                     break 'scan Search::Route {
                         goal: to,
                         room: least,
+                        start,
                     };
                 }
             }

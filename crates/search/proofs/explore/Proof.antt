@@ -7,22 +7,22 @@ use mathlib.Core.Logic.{⊎-elim}
 use borrow.Author.Tests.{eqb-true, eqb-false}
 use Rattle.rows.specs.Row.{nth}
 use Rattle.search.specs.Wires.{branchOf}
-use Rattle.search.proofs.Scan.{Scan, Turn, scan-start, here-bus, turn-start, turn-next, far-row, turn-skip, turn-room, turn-tree, turn-hit, turn-mark, turn-end}
+use Rattle.search.proofs.Scan.{Scan, Turn, scan-start, here-bus, turn-start, here-origin, turn-next, far-row, turn-skip, turn-room, turn-tree, turn-hit, turn-mark, turn-end}
 use Rattle.search.proofs.Answers.{searched-group, searched-route}
 use Rattle.search.proofs.explore.Statement.{statement}
 use Rattle.search.proofs.explore.Tie as tie
 
 abbrev Inv-loop : tie.InvT-loop
-Inv-loop wires work roles marks₀ queue₀ tail₀ room₀ at here low side₀ marks queue tail room side = Turn wires (work .ahead) (work .back) roles marks queue room at tail here low side
+Inv-loop wires work roles marks₀ queue₀ origin₀ tail₀ room₀ at here low side₀ marks queue origin tail room side = Turn wires (work .ahead) (work .back) roles marks queue room origin at tail here low side
 
 abbrev μ-loop : tie.MeasureT-loop
-μ-loop wires work roles marks₀ queue₀ tail₀ room₀ at here low side₀ marks queue tail room side = 256 - branchOf side
+μ-loop wires work roles marks₀ queue₀ origin₀ tail₀ room₀ at here low side₀ marks queue origin tail room side = 256 - branchOf side
 
 abbrev Inv-scan : tie.InvT-scan
-Inv-scan wires work roles marks₀ queue₀ tail₀ room₀ at₀ marks queue tail room at = Scan wires (work .ahead) (work .back) roles marks queue room at tail
+Inv-scan wires work roles marks₀ queue₀ origin₀ tail₀ room₀ at₀ marks queue origin tail room at = Scan wires (work .ahead) (work .back) roles marks queue room origin at tail
 
 abbrev μ-scan : tie.MeasureT-scan
-μ-scan wires work roles marks₀ queue₀ tail₀ room₀ at₀ marks queue tail room at = 128 - at
+μ-scan wires work roles marks₀ queue₀ origin₀ tail₀ room₀ at₀ marks queue origin tail room at = 128 - at
 
 -- The bus at hand and the bus that a branch leads to stand in the rows, and a new bus finds a place in the queue.
 bus-here : (c : tie.Else1 Inv-loop μ-loop Inv-scan μ-scan) → nth (c .before .scan .queue) (c .before .scan .at) < 128
@@ -31,17 +31,17 @@ bus-here c = here-bus (c .before .scan .inv) (c .if1 .left)
 in-row : (c : tie.In-loop Inv-loop μ-loop Inv-scan μ-scan) → c .before .loop .side < 512
 in-row c = omega arith
 
-bus-there : (c : tie.In-loop Inv-loop μ-loop Inv-scan μ-scan) → nth (c .before .before .before .before .before .before .before .before .before .before .before .args .t1 .far) (c .before .loop .side) < 128
+bus-there : (c : tie.In-loop Inv-loop μ-loop Inv-scan μ-scan) → nth (c .before .before .before .before .before .before .before .before .before .before .before .before .args .t1 .far) (c .before .loop .side) < 128
 bus-there c = far-row (c .before .loop .inv) (in-row c)
 
 place-left : (c : tie.After-smaller Inv-loop μ-loop Inv-scan μ-scan) → c .before .before .before .before .before .before .before .before .loop .tail < 128
 place-left c = turn-room (c .before .before .before .before .before .before .before .before .loop .inv) (in-row (c .before .before .before .before .before .before .before)) refl refl (c .before .before .before .latent .ensures) (c .before .before .if2 .taken) (eqb-true _ _ (c .before .if3 .taken)) _ (c .smaller .ensures)
 
 seed-requires : tie.Need-seed-requires Inv-loop μ-loop Inv-scan μ-scan
-seed-requires c κs = record { few = c .before .before .before .before .before .pre .linked .wired .few; blank = c .before .before .before .before .before .pre .blank; slots = search needs }
+seed-requires c κs = record { few = c .before .before .before .before .before .before .pre .linked .wired .few; blank = c .before .before .before .before .before .before .pre .blank; slots = search needs; whole = refl }
 
 scan-holds : tie.Need-scan-holds Inv-loop μ-loop Inv-scan μ-scan
-scan-holds c = scan-start _ _ (c .before .before .before .before .before .before .pre .linked) (c .seed .ensures)
+scan-holds c = scan-start _ _ (c .before .before .before .before .before .before .before .pre .linked) (c .seed .ensures)
 
 array-read-here : tie.Need-array-read-here Inv-loop μ-loop Inv-scan μ-scan
 array-read-here c = omega arith
@@ -97,6 +97,12 @@ array-read-if3 c = omega (arith, bus-there (c .before .before .before .before .b
 smaller-requires : tie.Need-smaller-requires Inv-loop μ-loop Inv-scan μ-scan
 smaller-requires c κs = search needs
 
+array-read-start : tie.Need-array-read-start Inv-loop μ-loop Inv-scan μ-scan
+array-read-start c = omega (arith, bus-here (c .before .before .before .before .before .before .before .before .before .before))
+
+cast-start : tie.Need-cast-start Inv-loop μ-loop Inv-scan μ-scan
+cast-start c = omega (arith, here-origin (c .before .before .before .before .before .before .before .before .loop .inv))
+
 add-marks : tie.Need-add-marks Inv-loop μ-loop Inv-scan μ-scan
 add-marks c = omega arith
 
@@ -121,6 +127,12 @@ mul-room c = omega (arith, bus-there (c .before .before .before .before .before 
 array-write-room : tie.Need-array-write-room Inv-loop μ-loop Inv-scan μ-scan
 array-write-room c = omega (arith, bus-there (c .before .before .before .before .before .before .before))
 
+cast-origin : tie.Need-cast-origin Inv-loop μ-loop Inv-scan μ-scan
+cast-origin c = omega (arith, here-origin (c .before .before .before .before .before .before .before .before .loop .inv))
+
+array-write-origin : tie.Need-array-write-origin Inv-loop μ-loop Inv-scan μ-scan
+array-write-origin c = omega (arith, bus-there (c .before .before .before .before .before .before .before))
+
 add-tail : tie.Need-add-tail Inv-loop μ-loop Inv-scan μ-scan
 add-tail c = omega (arith, place-left c)
 
@@ -142,10 +154,10 @@ loop-less c = omega (arith, turn-next (c .before .before .before .before .before
 loop-again : tie.Need-loop-again Inv-loop μ-loop Inv-scan μ-scan
 loop-again c =
     ⊎-elim
-    (λ w. turn-mark (c .before .before .before .before .before .before .before .loop .inv) (in-row (c .before .before .before .before .before .before)) refl refl (c .before .before .latent .ensures) (w .0 .taken) (eqb-true _ _ (w .1 .taken)) _ (w .2 .ensures) (w .3 .left) (w .4) (w .5) (w .6) (w .7))
+    (λ w. turn-mark (c .before .before .before .before .before .before .before .loop .inv) (in-row (c .before .before .before .before .before .before)) refl refl (c .before .before .latent .ensures) (w .0 .taken) (eqb-true _ _ (w .1 .taken)) _ (w .2 .ensures) (w .3 .left) (w .4) (w .5) (w .6) (w .7) (w .8))
     (λ w. ⊎-elim
-    (λ u. turn-skip (c .before .before .before .before .before .before .before .loop .inv) (in-row (c .before .before .before .before .before .before)) refl refl (c .before .before .latent .ensures) (λ g. eqb-false _ _ (u .1 .left)) (w .1) (w .2) (w .3) (w .4))
-    (λ u. turn-skip (c .before .before .before .before .before .before .before .loop .inv) (in-row (c .before .before .before .before .before .before)) refl refl (c .before .before .latent .ensures) (λ g. absurd (omega arith)) (w .1) (w .2) (w .3) (w .4))
+    (λ u. turn-skip (c .before .before .before .before .before .before .before .loop .inv) (in-row (c .before .before .before .before .before .before)) refl refl (c .before .before .latent .ensures) (λ g. eqb-false _ _ (u .1 .left)) (w .1) (w .2) (w .3) (w .4) (w .5))
+    (λ u. turn-skip (c .before .before .before .before .before .before .before .loop .inv) (in-row (c .before .before .before .before .before .before)) refl refl (c .before .before .latent .ensures) (λ g. absurd (omega arith)) (w .1) (w .2) (w .3) (w .4) (w .5))
     (w .0 .came))
     (c .before .if2 .came)
 
@@ -199,6 +211,8 @@ explore-spec =
     mul-if3
     array-read-if3
     smaller-requires
+    array-read-start
+    cast-start
     add-marks
     cast-marks
     mul-marks
@@ -207,6 +221,8 @@ explore-spec =
     array-write-queue
     mul-room
     array-write-room
+    cast-origin
+    array-write-origin
     add-tail
     array-read-if4
     mul-side-2
