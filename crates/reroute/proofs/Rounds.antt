@@ -17,7 +17,7 @@ use Rattle.search.specs.declared.Search.the-variants.{Route}
 use Rattle.search.specs.declared.Found.{Found}
 use Rattle.search.proofs.Answers.{route-of}
 use Rattle.reroute.specs.Flow.{total, Ready}
-use Rattle.reroute.specs.Inside.{roleOf, Roles, Back, Starts, Movable, ends, Moves}
+use Rattle.reroute.specs.Inside.{roleOf, Roles, Movable, ends, Moves}
 use Rattle.reroute.proofs.Rows.{set-less}
 use Rattle.reroute.proofs.Casting.{role-surplus, role-deficit}
 
@@ -65,16 +65,10 @@ pub record Amount (room s t x : ℕ) : Type 0 where
   pub some : 0 < room → 0 < s → 0 < t → 0 < x
 
 -- A route is found.
-module _ {W : Wires} {w : Work} {r : List ℕ} {fd : Found} (S : Searched W w r fd) {goal room : ℕ} (e : fd .answer ≡ Route goal room) {a₀ b₀ l₀ d₀ l d : List ℕ} {left : ℕ}
+module _ {W : Wires} {w : Work} {r : List ℕ} {fd : Found} (S : Searched W w r fd) {goal room start : ℕ} (e : fd .answer ≡ Route goal room start) {a₀ b₀ l₀ d₀ l d : List ℕ} {left : ℕ}
     (R : Round W a₀ b₀ l₀ d₀ (w .ahead) (w .back) l d r left) where
-  routed : Routed (scene W (w .ahead) (w .back) r) (fd .work .marks) goal room
+  routed : Routed (scene W (w .ahead) (w .back) r) (fd .work .marks) goal room start
   routed = route-of S e
-
-  few : W .branches ≤ 256
-  few = R .ready .linked .wired .size
-
-  pub round-back : length (fd .work .marks) ≡ 128 → Back W (fd .work .marks) goal
-  round-back l = record { long = l; few = few; from = routed .trail .from; ks = routed .trail .ks; path = routed .trail .path; short = routed .trail .short }
 
   pub goal-bus : goal < 128
   goal-bus = omega (arith, routed .bus, R .ready .linked .wired .few)
@@ -82,101 +76,97 @@ module _ {W : Wires} {w : Work} {r : List ℕ} {fd : Found} (S : Searched W w r 
   goal-some : 0 < nth d goal
   goal-some = role-deficit (nth l goal) (nth d goal) (sym (R .roles .role goal (routed .bus)) ∙ routed .goal)
 
-  module _ {start : ℕ} (St : Starts W (fd .work .marks) goal start) where
-    is-start : routed .trail .from ≡ start
-    is-start = St .is (routed .trail .from) (routed .trail .ks) (routed .trail .path)
+  start-in : start < W .buses
+  start-in = routed .origin .bus
 
-    start-in : start < W .buses
-    start-in = subst (λ (v : ℕ). v < W .buses) is-start (routed .origin .bus)
+  pub start-bus : start < 128
+  start-bus = omega (arith, start-in, R .ready .linked .wired .few)
 
-    pub start-bus : start < 128
-    start-bus = omega (arith, start-in, R .ready .linked .wired .few)
+  start-some : 0 < nth l start
+  start-some = role-surplus (nth l start) (nth d start) (sym (R .roles .role start start-in) ∙ routed .origin .role)
 
-    start-some : 0 < nth l start
-    start-some = role-surplus (nth l start) (nth d start) (sym (R .roles .role start start-in) ∙ subst (λ (v : ℕ). nth r v ≡ 1) is-start (routed .origin .role))
+  -- a bus has no deficit beside a surplus
+  no-lack : nth d start ≡ 0
+  no-lack = omega (arith, start-some, R .ready .apart start start-in, R .less-l start, R .less-d start)
 
-    -- a bus has no deficit beside a surplus
-    no-lack : nth d start ≡ 0
-    no-lack = omega (arith, start-some, R .ready .apart start start-in, R .less-l start, R .less-d start)
+  no-more : nth l goal ≡ 0
+  no-more = omega (arith, goal-some, R .ready .apart goal (routed .bus), R .less-l goal, R .less-d goal)
 
-    no-more : nth l goal ≡ 0
-    no-more = omega (arith, goal-some, R .ready .apart goal (routed .bus), R .less-l goal, R .less-d goal)
+  apart : goal ≡ start → ⊥
+  apart g = let z : nth l start ≡ 0 = subst (λ (v : ℕ). nth l v ≡ 0) g no-more in omega (arith, start-some)
 
-    apart : goal ≡ start → ⊥
-    apart g = let z : nth l start ≡ 0 = subst (λ (v : ℕ). nth l v ≡ 0) g no-more in omega (arith, start-some)
+  module _ {x : ℕ} (A : Amount room (nth l start) (nth d goal) x) where
+    pub round-movable : length (fd .work .marks) ≡ 128 → Movable W (fd .work .marks) (w .ahead) (w .back) goal x
+    round-movable l =
+        record {
+          long = l;
+          long-a = R .long-a;
+          long-b = R .long-b;
+          few = R .ready .linked .wired .size;
+          room = room;
+          trail = routed .trail;
+          fits = A .in-room;
+          sums = record { fit = λ k h. omega (arith, R .ready .sums .fit k h, R .same k) };
+        }
 
-    module _ {x : ℕ} (A : Amount room (nth l start) (nth d goal) x) where
-      pub round-movable : length (fd .work .marks) ≡ 128 → Movable W (fd .work .marks) (w .ahead) (w .back) goal x
-      round-movable l =
+    pub in-left : x ≤ left
+    in-left = omega (arith, A .in-surplus, R .sum, over-term (W .buses) all (nth l) start start-in)
+
+    pub round-less : left - x < left
+    round-less = omega (arith, A .some (routed .some) start-some goal-some, in-left)
+
+    less-at : (i : ℕ) → nth (set l start (nth l start - x)) i + pick (eqb start i) x ≡ nth l i
+    less-at i = set-less l start x i (omega (arith, R .long-l, start-bus)) (A .in-surplus)
+
+    lack-at : (i : ℕ) → nth (set d goal (nth d goal - x)) i + pick (eqb goal i) x ≡ nth d i
+    lack-at i = set-less d goal x i (omega (arith, R .long-d, goal-bus)) (A .in-deficit)
+
+    module _ {p q : ℕ} (ep : p ≡ roleOf (nth l start - x) 0) (eq : q ≡ roleOf 0 (nth d goal - x)) where
+      -- the roles at the two ends of the route, and elsewhere
+      role-at : (i : ℕ) → i < W .buses → nth (set (set r start p) goal q) i ≡ roleOf (nth (set l start (nth l start - x)) i) (nth (set d goal (nth d goal - x)) i)
+      role-at i h = which (ℕ-discrete i goal) (ℕ-discrete i start)
+        where
+          which : Dec (i ≡ goal) → Dec (i ≡ start) → nth (set (set r start p) goal q) i ≡ roleOf (nth (set l start (nth l start - x)) i) (nth (set d goal (nth d goal - x)) i)
+          which (yes g) o =
+              rw (
+                g,
+                getD-set-same (set r start p) goal q 0 (omega (arith, length-set r start p, R .long-r, goal-bus)),
+                getD-set-other l start goal (nth l start - x) 0 apart,
+                getD-set-same d goal (nth d goal - x) 0 (omega (arith, R .long-d, goal-bus)),
+                no-more,
+              ) eq
+          which (no n) (yes g) =
+              rw (
+                getD-set-other (set r start p) goal i q 0 n,
+                getD-set-other d goal i (nth d goal - x) 0 n,
+                g,
+                getD-set-same r start p 0 (omega (arith, R .long-r, start-bus)),
+                getD-set-same l start (nth l start - x) 0 (omega (arith, R .long-l, start-bus)),
+                no-lack,
+              ) ep
+          which (no n) (no n′) =
+              rw (
+                getD-set-other (set r start p) goal i q 0 n,
+                getD-set-other r start i p 0 n′,
+                getD-set-other l start i (nth l start - x) 0 n′,
+                getD-set-other d goal i (nth d goal - x) 0 n,
+              ) (R .roles .role i h)
+
+      pub round-again : {a′ b′ : List ℕ} → length a′ ≡ 256 → length b′ ≡ 256 → Moves W (fd .work .marks) (w .ahead) (w .back) goal x a′ b′
+          → Round W a₀ b₀ l₀ d₀ a′ b′ (set l start (nth l start - x)) (set d goal (nth d goal - x)) (set (set r start p) goal q) (left - x)
+      round-again la lb moved =
           record {
-            long = l;
-            long-a = R .long-a;
-            long-b = R .long-b;
-            few = few;
-            room = room;
-            trail = routed .trail;
-            fits = A .in-room;
-            sums = record { fit = λ k h. omega (arith, R .ready .sums .fit k h, R .same k) };
+            ready = R .ready;
+            long-a = la;
+            long-b = lb;
+            long-l = length-set l start (nth l start - x) ∙ R .long-l;
+            long-d = length-set d goal (nth d goal - x) ∙ R .long-d;
+            long-r = length-set (set r start p) goal q ∙ length-set r start p ∙ R .long-r;
+            same = λ k. moved .same k ∙ R .same k;
+            beyond = λ k h. moved .beyond k h ∙ R .beyond k h;
+            less-l = λ i. omega (arith, less-at i, R .less-l i);
+            less-d = λ i. omega (arith, lack-at i, R .less-d i);
+            drift = λ i. omega (arith, R .drift i, rw (routed .starts) at (moved .drift (routed .trail .from) (routed .trail .ks) (routed .trail .path) i), less-at i, lack-at i);
+            roles = record { role = role-at };
+            sum = omega (arith, R .sum, A .in-surplus, in-left, over-set (W .buses) all l start (nth l start - x) start-in (omega (arith, R .long-l, start-bus)));
           }
-
-      pub in-left : x ≤ left
-      in-left = omega (arith, A .in-surplus, R .sum, over-term (W .buses) all (nth l) start start-in)
-
-      pub round-less : left - x < left
-      round-less = omega (arith, A .some (routed .some) start-some goal-some, in-left)
-
-      less-at : (i : ℕ) → nth (set l start (nth l start - x)) i + pick (eqb start i) x ≡ nth l i
-      less-at i = set-less l start x i (omega (arith, R .long-l, start-bus)) (A .in-surplus)
-
-      lack-at : (i : ℕ) → nth (set d goal (nth d goal - x)) i + pick (eqb goal i) x ≡ nth d i
-      lack-at i = set-less d goal x i (omega (arith, R .long-d, goal-bus)) (A .in-deficit)
-
-      module _ {p q : ℕ} (ep : p ≡ roleOf (nth l start - x) 0) (eq : q ≡ roleOf 0 (nth d goal - x)) where
-        -- the roles at the two ends of the route, and elsewhere
-        role-at : (i : ℕ) → i < W .buses → nth (set (set r start p) goal q) i ≡ roleOf (nth (set l start (nth l start - x)) i) (nth (set d goal (nth d goal - x)) i)
-        role-at i h = which (ℕ-discrete i goal) (ℕ-discrete i start)
-          where
-            which : Dec (i ≡ goal) → Dec (i ≡ start) → nth (set (set r start p) goal q) i ≡ roleOf (nth (set l start (nth l start - x)) i) (nth (set d goal (nth d goal - x)) i)
-            which (yes g) o =
-                rw (
-                  g,
-                  getD-set-same (set r start p) goal q 0 (omega (arith, length-set r start p, R .long-r, goal-bus)),
-                  getD-set-other l start goal (nth l start - x) 0 apart,
-                  getD-set-same d goal (nth d goal - x) 0 (omega (arith, R .long-d, goal-bus)),
-                  no-more,
-                ) eq
-            which (no n) (yes g) =
-                rw (
-                  getD-set-other (set r start p) goal i q 0 n,
-                  getD-set-other d goal i (nth d goal - x) 0 n,
-                  g,
-                  getD-set-same r start p 0 (omega (arith, R .long-r, start-bus)),
-                  getD-set-same l start (nth l start - x) 0 (omega (arith, R .long-l, start-bus)),
-                  no-lack,
-                ) ep
-            which (no n) (no n′) =
-                rw (
-                  getD-set-other (set r start p) goal i q 0 n,
-                  getD-set-other r start i p 0 n′,
-                  getD-set-other l start i (nth l start - x) 0 n′,
-                  getD-set-other d goal i (nth d goal - x) 0 n,
-                ) (R .roles .role i h)
-
-        pub round-again : {a′ b′ : List ℕ} → length a′ ≡ 256 → length b′ ≡ 256 → Moves W (fd .work .marks) (w .ahead) (w .back) goal x a′ b′
-            → Round W a₀ b₀ l₀ d₀ a′ b′ (set l start (nth l start - x)) (set d goal (nth d goal - x)) (set (set r start p) goal q) (left - x)
-        round-again la lb moved =
-            record {
-              ready = R .ready;
-              long-a = la;
-              long-b = lb;
-              long-l = length-set l start (nth l start - x) ∙ R .long-l;
-              long-d = length-set d goal (nth d goal - x) ∙ R .long-d;
-              long-r = length-set (set r start p) goal q ∙ length-set r start p ∙ R .long-r;
-              same = λ k. moved .same k ∙ R .same k;
-              beyond = λ k h. moved .beyond k h ∙ R .beyond k h;
-              less-l = λ i. omega (arith, less-at i, R .less-l i);
-              less-d = λ i. omega (arith, lack-at i, R .less-d i);
-              drift = λ i. omega (arith, R .drift i, rw is-start at (moved .drift (routed .trail .from) (routed .trail .ks) (routed .trail .path) i), less-at i, lack-at i);
-              roles = record { role = role-at };
-              sum = omega (arith, R .sum, A .in-surplus, in-left, over-set (W .buses) all l start (nth l start - x) start-in (omega (arith, R .long-l, start-bus)));
-            }

@@ -8,8 +8,6 @@ use lib.ListN.{length}
 use Rattle.rows.specs.Row.{nth}
 use Rattle.search.specs.Search.{Joins, Path, stop, via}
 use Rattle.search.specs.Search.Joins.{forth, back}
-use Rattle.search.specs.declared.Wires.{Wires}
-use Rattle.reroute.specs.Inside.{Back, Starts}
 
 -- One step back, over branch k.
 pub record Hop (k n : ℕ) (f s m : List ℕ) (from v : ℕ) (ks : List ℕ) : Type 0 where
@@ -107,32 +105,3 @@ module _ (n : ℕ) (f s m : List ℕ) (goal at steps : ℕ) (T : Walk n f s m go
 
     unfoldable pub walk-back : (nth s (nth m at - 2) ≡ at → ⊥) → Walk n f s m goal (nth s (nth m at - 2)) (steps + 1)
     walk-back g = walk-on _ (to-second g .0)
-
--- The walk of `trace`.
-pub record Tracing (W : Wires) (m : List ℕ) (goal at steps : ℕ) : Type 0 where
-  pub long : length m ≡ 128
-  pub few : W .branches ≤ 256
-  pub walk : Walk (W .branches) (W .first) (W .second) m goal at steps
-
-pub tracing-start : {W : Wires} {m : List ℕ} {goal : ℕ} → Back W m goal → Tracing W m goal goal 0
-tracing-start {goal = goal} B = record { long = B .long; few = B .few; walk = walk-start _ _ _ _ goal (B .from) (B .ks) (B .path) (B .short) }
-
-module _ {W : Wires} {m : List ℕ} {goal at steps : ℕ} (T : Tracing W m goal at steps) where
-  pub tracing-bus : at < length m
-  tracing-bus = omega (arith, T .long, walk-bus _ _ _ _ goal at steps (T .walk))
-
-  pub tracing-end : nth m at ≡ 1 → Starts W m goal at
-  tracing-end z = record { is = walk-end _ _ _ _ goal at steps (T .walk) z }
-
-  module _ (z : nth m at ≡ 1 → ⊥) where
-    pub tracing-two : 2 ≤ nth m at
-    tracing-two = two _ _ _ _ goal at steps (T .walk) z
-
-    pub tracing-branch : nth m at - 2 < 256
-    tracing-branch = omega (arith, T .few, branch _ _ _ _ goal at steps (T .walk) z)
-
-    pub tracing-forth : nth (W .second) (nth m at - 2) ≡ at → Tracing W m goal (nth (W .first) (nth m at - 2)) (steps + 1)
-    tracing-forth g = record { long = T .long; few = T .few; walk = walk-forth _ _ _ _ goal at steps (T .walk) z g }
-
-    pub tracing-back : (nth (W .second) (nth m at - 2) ≡ at → ⊥) → Tracing W m goal (nth (W .second) (nth m at - 2)) (steps + 1)
-    tracing-back g = record { long = T .long; few = T .few; walk = walk-back _ _ _ _ goal at steps (T .walk) z g }

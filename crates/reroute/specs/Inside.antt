@@ -23,20 +23,7 @@ roleOf zero zero = 0
 pub record Roles (n : ℕ) (l d r : List ℕ) : Type 0 where
   pub role : (i : ℕ) → i < n → nth r i ≡ roleOf (nth l i) (nth d i)
 
--- The marks m lead back from v.
-pub record Back (W : Wires) (m : List ℕ) (v : ℕ) : Type 0 where
-  pub long : length m ≡ 128
-  pub few : W .branches ≤ 256
-  pub from : ℕ
-  pub ks : List ℕ
-  pub path : Path (W .branches) (W .first) (W .second) m from v ks
-  pub short : length ks < 128
-
--- r is where they lead to.
-pub record Starts (W : Wires) (m : List ℕ) (v r : ℕ) : Type 0 where
-  pub is : (from : ℕ) (ks : List ℕ) → Path (W .branches) (W .first) (W .second) m from v ks → from ≡ r
-
--- The way back from v has x or more on every branch.
+-- The marks m lead back from v, over branches that each have x or more.
 pub record Movable (W : Wires) (m a b : List ℕ) (v x : ℕ) : Type 0 where
   pub long : length m ≡ 128
   pub long-a : length a ≡ 256

@@ -3,7 +3,7 @@
 // What is public here serves the crates above alone, which meet what it requires.
 ghost use Rattle.reroute.specs.Flow.{total, Ready, Rerouted};
 ghost use Rattle.reroute.specs.Verdicts.{Basic, Based, Losable, Lost};
-ghost use Rattle.reroute.specs.Inside.{roleOf, Roles, Back, Starts, Movable, Moves, Summable, Judged, Joint, Opened};
+ghost use Rattle.reroute.specs.Inside.{roleOf, Roles, Movable, Moves, Summable, Judged, Joint, Opened};
 ghost use Prim.Native.Nat.{_≤_};
 ghost use mathlib.Core.Path.{_≡_};
 use search::Search;
@@ -81,31 +81,8 @@ fn sum(buses: usize, row: [u32; 128]) -> u32
     sum
 }
 
-// The start of the way that the marks lead back from the goal; the steps are counted for the proof that it ends.
-fn trace(wires: Wires, marks: &[u16], goal: usize) -> usize
-    requires { ⌜ Back wires (now marks) goal ⌝ }
-    ensures { λ r. ⌜ Starts wires (now (marks .entry)) goal r ⌝ }
-{
-    let mut at = goal;
-    let mut steps: usize = 0;
-    loop {
-        let mark = marks[at] as usize;
-        if mark == 1 {
-            return at;
-        }
-        let k = mark - 2;
-        let near = wires.first[k] as usize;
-        let far = wires.second[k] as usize;
-        if far == at {
-            at = near;
-        } else {
-            at = far;
-        }
-        steps += 1;
-    }
-}
-
 // Moves x along the way that the marks lead back from the goal: each branch loses it one way and gains it the other.
+// The steps are counted for the proof that it ends.
 fn shift(wires: Wires, marks: &[u16], a: &mut [u32], b: &mut [u32], goal: usize, x: u32)
     requires { ⌜ Movable wires (now marks) (now a) (now b) goal x ⌝ }
     ensures { λ _. ⌜ Moves wires (now (marks .entry)) (now (a .entry)) (now (b .entry)) goal x (now (a .exit)) (now (b .exit)) ⌝ }
@@ -155,13 +132,12 @@ pub fn reroute(wires: Wires, latent: Latent, rest: Rest) -> Moved
         };
         let found = search::explore(wires, work, row);
         let answer = found.answer;
-        let Search::Route { goal, room } = answer else {
+        let Search::Route { goal, room, start } = answer else {
             let group = found.group;
             return outcome(a, b, more, lack, group, left);
         };
         let way = found.work;
         let marks = way.marks;
-        let start = trace(wires, &marks, goal);
         let s = more[start];
         let t = lack[goal];
         let x = smaller(room, smaller(s, t));

@@ -17,30 +17,30 @@ use Rattle.search.proofs.Scan.{Scan, scan-reached}
 abbrev worked : Work → List ℕ → List ℕ → Work
 worked w m q = record { marks = m; queue = q; ahead = w .ahead; back = w .back }
 
-module _ {W : Wires} {w : Work} {roles m q rooms : List ℕ} where
-  searched : (answer : Search) (t : ℕ) (r : Found) → Tree (scene W (w .ahead) (w .back) roles) m q rooms t → Packed answer t (worked w m q) r → Said (scene W (w .ahead) (w .back) roles) m (r .group) answer → Searched W w roles r
+module _ {W : Wires} {w : Work} {roles m q rooms origins : List ℕ} where
+  searched : (answer : Search) (t : ℕ) (r : Found) → Tree (scene W (w .ahead) (w .back) roles) m q rooms origins t → Packed answer t (worked w m q) r → Said (scene W (w .ahead) (w .back) roles) m (r .group) answer → Searched W w roles r
   searched answer t r T P said =
       record {
         same-ahead = rw (P .same-work) refl;
         same-back = rw (P .same-work) refl;
-        queued = rw (P .same-work, P .same-taken) (tree-queued (scene W (w .ahead) (w .back) roles) m q rooms t T);
+        queued = rw (P .same-work, P .same-taken) (tree-queued (scene W (w .ahead) (w .back) roles) m q rooms origins t T);
         said = rw (P .same-work, P .same-answer) said;
       }
 
-  pub searched-group : {h t : ℕ} → Scan W (w .ahead) (w .back) roles m q rooms h t → t ≤ h
+  pub searched-group : {h t : ℕ} → Scan W (w .ahead) (w .back) roles m q rooms origins h t → t ≤ h
       → {m₁ q₁ : List ℕ} {t₁ : ℕ} {answer : Search} {r : Found} → Packed answer t₁ (worked w m₁ q₁) r → m₁ ≡ m → q₁ ≡ q → t₁ ≡ t → answer ≡ Group → Searched W w roles r
   searched-group {t = t} S l {r = r} P i j i′ j′ =
       let P′ : Packed Group t (worked w m q) r = rw (i, j, i′, j′) at P in
       searched Group t r (S .tree) P′ (record { reached = scan-reached S l; apart = λ v b. S .apart v; bits = P′ .shown })
 
-  pub searched-route : {t v x : ℕ} → Tree (scene W (w .ahead) (w .back) roles) m q rooms t → Routed (scene W (w .ahead) (w .back) roles) m v x
-      → {m₁ q₁ : List ℕ} {t₁ : ℕ} {answer : Search} {r : Found} → Packed answer t₁ (worked w m₁ q₁) r → m₁ ≡ m → q₁ ≡ q → t₁ ≡ t → answer ≡ Route v x → Searched W w roles r
-  searched-route {t} {v} {x} T R {r = r} P i j i′ j′ =
-      let P′ : Packed (Route v x) t (worked w m q) r = rw (i, j, i′, j′) at P in
-      searched (Route v x) t r T P′ (R, P′ .shown)
+  pub searched-route : {t v x s : ℕ} → Tree (scene W (w .ahead) (w .back) roles) m q rooms origins t → Routed (scene W (w .ahead) (w .back) roles) m v x s
+      → {m₁ q₁ : List ℕ} {t₁ : ℕ} {answer : Search} {r : Found} → Packed answer t₁ (worked w m₁ q₁) r → m₁ ≡ m → q₁ ≡ q → t₁ ≡ t → answer ≡ Route v x s → Searched W w roles r
+  searched-route {t} {v} {x} {s} T R {r = r} P i j i′ j′ =
+      let P′ : Packed (Route v x s) t (worked w m q) r = rw (i, j, i′, j′) at P in
+      searched (Route v x s) t r T P′ (R, P′ .shown)
 
 module _ {W : Wires} {w : Work} {roles : List ℕ} {r : Found} (S : Searched W w roles r) where
-  pub route-of : {v x : ℕ} → r .answer ≡ Route v x → Routed (scene W (w .ahead) (w .back) roles) (r .work .marks) v x
+  pub route-of : {v x s : ℕ} → r .answer ≡ Route v x s → Routed (scene W (w .ahead) (w .back) roles) (r .work .marks) v x s
   route-of e = subst (Said (scene W (w .ahead) (w .back) roles) (r .work .marks) (r .group)) e (S .said) .0
 
   pub group-of : r .answer ≡ Group → Grouped (scene W (w .ahead) (w .back) roles) (r .work .marks) (r .group)

@@ -1,4 +1,4 @@
--- The route back from a queued bus: its branches, its buses and its smallest latent capacity.
+-- The route back from a queued bus: its branches, its buses, its smallest latent capacity and its start.
 use mathlib.Core.Path.{_≡_, refl, sym, ap, subst, _∙_}
 use mathlib.Core.List.{List, [], _∷_}
 use mathlib.Core.Logic.{_⊎_, inl, inr, ⊎-elim}
@@ -48,11 +48,10 @@ record Passed (q : List ℕ) (bound v : ℕ) : Type 0 where
   under : spot < bound
   is : nth q spot ≡ v
 
-record Line (N : Scene) (m q w : List ℕ) (p : ℕ) : Type 0 where
-  from : ℕ
-  origin : Start N from
+record Line (N : Scene) (m q w o : List ℕ) (p : ℕ) : Type 0 where
+  origin : Start N (nth o (nth q p))
   ks : List ℕ
-  path : Path (N .branches) (N .first) (N .second) m from (nth q p) ks
+  path : Path (N .branches) (N .first) (N .second) m (nth o (nth q p)) (nth q p) ks
   least : nth w (nth q p) ≡ narrow (N .first) (N .second) (N .ahead) (N .back) (nth q p) ks
   some : 0 < nth w (nth q p)
   short : length ks ≤ p
@@ -64,8 +63,8 @@ record Line (N : Scene) (m q w : List ℕ) (p : ℕ) : Type 0 where
 lone-bus : (v : ℕ) → Distinct (v ∷ [])
 lone-bus v = distinct-cons v [] (λ j l. absurd (omega arith)) (record { once = λ i j l h. absurd (omega arith) })
 
-module _ (N : Scene) (m q w : List ℕ) (t : ℕ) (T : Tree N m q w t) where
-  module _ (p a k c : ℕ) (h : p < t) (d : a < p) (x : Arc N k c (nth q a) (nth q p)) (L : Line N m q w a) where
+module _ (N : Scene) (m q w o : List ℕ) (t : ℕ) (T : Tree N m q w o t) where
+  module _ (p a k c : ℕ) (h : p < t) (d : a < p) (x : Arc N k c (nth q a) (nth q p)) (L : Line N m q w o a) where
     used-more : (i : ℕ) → i < length (k ∷ L .ks) → Used N q (p + 1) (nth (k ∷ L .ks) i)
     used-more zero l = record { hi = p; lo = a; c = c; under = omega arith; falls = d; arc = x }
     used-more (suc i) l =
@@ -97,14 +96,13 @@ module _ (N : Scene) (m q w : List ℕ) (t : ℕ) (T : Tree N m q w t) where
     unfolding before
     more-stops = stops-step (N .first) (N .second) c k (nth q a) (nth q p) _ _ (L .ks) (T .once a p d h) (x .way)
 
-    line-more : nth m (nth q p) ≡ k + 2 → nth w (nth q p) ≡ min (nth w (nth q a)) c → Line N m q w p
+    line-more : nth m (nth q p) ≡ k + 2 → nth w (nth q p) ≡ min (nth w (nth q a)) c → nth o (nth q p) ≡ nth o (nth q a) → Line N m q w o p
     unfolding before
-    line-more e r =
+    line-more e r i =
         record {
-          from = L .from;
-          origin = L .origin;
+          origin = rw i (L .origin);
           ks = k ∷ L .ks;
-          path = via k (nth q a) (nth q p) (L .ks) (omega (arith, T .bus p h, T .small)) (x .below) (joins _ _ _ _ _ _ _ (x .way)) (T .once a p d h) e (L .path);
+          path = via k (nth q a) (nth q p) (L .ks) (omega (arith, T .bus p h, T .small)) (x .below) (joins _ _ _ _ _ _ _ (x .way)) (T .once a p d h) e (rw i (L .path));
           least = r ∙ ap (λ (v : ℕ). min v c) (L .least) ∙ narrow-step (N .first) (N .second) (N .ahead) (N .back) k c (nth q a) (nth q p) (L .ks) (T .once a p d h) (x .way);
           some = omega (arith, r, x .some, L .some);
           short = omega (arith, L .short);
@@ -114,13 +112,12 @@ module _ (N : Scene) (m q w : List ℕ) (t : ℕ) (T : Tree N m q w t) where
           buses-once = subst Distinct (sym more-stops) (distinct-cons (nth q p) before new-bus (L .buses-once));
         }
 
-  line : (p : ℕ) → p < t → ((a : ℕ) → a < p → Line N m q w a) → Placed N m q w p → Line N m q w p
-  line p h ih (root s e r) =
+  line : (p : ℕ) → p < t → ((a : ℕ) → a < p → Line N m q w o a) → Placed N m q w o p → Line N m q w o p
+  line p h ih (root s e r i) =
       record {
-        from = nth q p;
-        origin = record { bus = T .bus p h; role = s };
+        origin = rw i (record { bus = T .bus p h; role = s });
         ks = [];
-        path = stop (nth q p) refl (omega (arith, T .bus p h, T .small)) e;
+        path = stop (nth q p) i (omega (arith, T .bus p h, T .small)) e;
         least = r;
         some = omega arith;
         short = omega arith;
@@ -133,9 +130,9 @@ module _ (N : Scene) (m q w : List ℕ) (t : ℕ) (T : Tree N m q w t) where
       only : (i : ℕ) → i < length (nth q p ∷ []) → Passed q (p + 1) (nth (nth q p ∷ []) i)
       only zero l = record { spot = p; under = omega arith; is = refl }
       only (suc i) l = absurd (omega arith)
-  line p h ih (joined a k c d x e r) = line-more p a k c h d x (ih a d) e r
+  line p h ih (joined a k c d x e r i) = line-more p a k c h d x (ih a d) e r i
 
-  lines : (n p : ℕ) → p < n → p < t → Line N m q w p
+  lines : (n p : ℕ) → p < n → p < t → Line N m q w o p
   lines zero p l h = absurd (omega arith)
   lines (suc n) p l h = line p h (λ (a : ℕ) (d : a < p). lines n a (omega arith) (omega arith)) (T .place p h)
 
@@ -143,22 +140,25 @@ module _ (N : Scene) (m q w : List ℕ) (t : ℕ) (T : Tree N m q w t) where
     spot : (p : ℕ) × (p < t) × (nth q p ≡ v)
     spot = T .held v g
 
-    own : Line N m q w (spot .0)
+    own : Line N m q w o (spot .0)
     own = lines (suc (spot .0)) (spot .0) (omega arith) (spot .1)
 
-    pub trail-of : (r : Trail (N .branches) (N .first) (N .second) (N .ahead) (N .back) m v (nth w v)) × Start N (r .from)
+    pub trail-of : (r : Trail (N .branches) (N .first) (N .second) (N .ahead) (N .back) m v (nth w v)) × (r .from ≡ nth o v)
     trail-of = (
       record {
-        from = own .from;
+        from = nth o v;
         ks = own .ks;
-        path = subst (λ (u : ℕ). Path (N .branches) (N .first) (N .second) m (own .from) u (own .ks)) (spot .2) (own .path);
+        path = subst (λ (u : ℕ). Path (N .branches) (N .first) (N .second) m (nth o u) u (own .ks)) (spot .2) (own .path);
         least = subst (λ (u : ℕ). nth w u ≡ narrow (N .first) (N .second) (N .ahead) (N .back) u (own .ks)) (spot .2) (own .least);
         short = omega (arith, own .short, spot .1, T .count);
         branches-once = own .branches-once;
         buses-once = subst (λ (u : ℕ). Distinct (stops (N .first) (N .second) u (own .ks))) (spot .2) (own .buses-once);
       },
-      own .origin,
+      refl,
     )
+
+    pub origin-of : Start N (nth o v)
+    origin-of = subst (λ (u : ℕ). Start N (nth o u)) (spot .2) (own .origin)
 
     pub room-of : 0 < nth w v
     room-of = subst (λ (u : ℕ). 0 < nth w u) (spot .2) (own .some)

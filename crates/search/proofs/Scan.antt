@@ -6,35 +6,35 @@ use Prim.Native.Nat.{ℕ, _+_, _%_, _<_, _≤_, min}
 use native.Mathlib.Omega.{arith}
 use native.Mathlib.Decide.{ℕ-discrete}
 use borrow.Author.Count.{below-more}
-use borrow.Author.Tests.{lt-ltb, ltb-true}
+use borrow.Author.Tests.{lt-ltb, le-ltb, ltb-true}
+use lib.Dec.{ltb}
 use lib.ListN.{length, set, replicate, length-set, getD-replicate}
 use lib.Seq.{getD-set-same, getD-set-other}
 use Rattle.rows.specs.Row.{nth}
 use Rattle.rows.proofs.Sum.{below, equal, above, side as order}
 use Rattle.grid.specs.Reach.{Reach, here as begun, onward as led, Reached}
 use Rattle.search.specs.Wires.{Touches, Met, at-first, at-second, branchOf, Least, Linked}
-use Rattle.search.specs.Search.{Scene, scene, Way, Arc, Step, Start, marked, Trail, Routed}
+use Rattle.search.specs.Search.{Scene, scene, Way, Arc, Step, Start, marked, choose, Trail, Routed}
 use Rattle.search.specs.Search.Way.{forth, back}
-use Rattle.search.specs.Inside.{Leads, Tree, Seeded}
+use Rattle.search.specs.Inside.{Tree, Seeded}
 use Rattle.search.specs.declared.Wires.{Wires}
-use Rattle.search.specs.declared.Lead.{Lead}
 use Rattle.search.proofs.Rows.{either-place, still-positive}
-use Rattle.search.proofs.Links.{after-least}
+use Rattle.search.proofs.Links.{after-least, far-in}
 use Rattle.search.proofs.Tree.{positive, New, link, fit-q, grow, marked-reached}
-use Rattle.search.proofs.Route.{trail-of, room-of}
+use Rattle.search.proofs.Route.{trail-of, origin-of, room-of}
 
 -- Every branch of the buses before place `at` was followed.
-pub record Scan (W : Wires) (a b roles m q w : List ℕ) (at tail : ℕ) : Type 0 where
+pub record Scan (W : Wires) (a b roles m q w o : List ℕ) (at tail : ℕ) : Type 0 where
   pub linked : Linked W
-  pub tree : Tree (scene W a b roles) m q w tail
+  pub tree : Tree (scene W a b roles) m q w o tail
   pub within : at ≤ tail
   pub seeds : (v : ℕ) → v < W .buses → nth roles v ≡ 1 → 0 < nth m v
   pub apart : (v : ℕ) → 0 < nth m v → nth roles v ≡ 2 → ⊥
   pub closed : (p k c v : ℕ) → p < at → Arc (scene W a b roles) k c (nth q p) v → 0 < nth m v
 
 -- So was every branch of bus `here`, at place `at`, below that of `side`, which meets it at `here` or is 512.
-pub record Turn (W : Wires) (a b roles m q w : List ℕ) (at tail here low side : ℕ) : Type 0 where
-  pub scan : Scan W a b roles m q w at tail
+pub record Turn (W : Wires) (a b roles m q w o : List ℕ) (at tail here low side : ℕ) : Type 0 where
+  pub scan : Scan W a b roles m q w o at tail
   pub below : at < tail
   pub is-here : nth q at ≡ here
   pub is-low : nth w here ≡ low
@@ -50,7 +50,7 @@ arc-touches N k c u v x = by (x .way)
     by (forth p r e) = inl p
     by (back p r e) = inr p
 
-pub scan-start : {W : Wires} (a b : List ℕ) {roles m q : List ℕ} {t : ℕ} → Linked W → Seeded (W .buses) roles m q t → Scan W a b roles m q (replicate 128 4294967295) 0 t
+pub scan-start : {W : Wires} (a b : List ℕ) {roles m q o : List ℕ} {t : ℕ} → Linked W → Seeded (W .buses) roles m q o t → Scan W a b roles m q (replicate 128 4294967295) o 0 t
 scan-start {W} a b {roles} K S =
     record {
       linked = K;
@@ -61,11 +61,11 @@ scan-start {W} a b {roles} K S =
       closed = λ p k c v d. absurd (omega arith);
     }
 
-module _ {W : Wires} {a b roles m q w : List ℕ} {h t : ℕ} (S : Scan W a b roles m q w h t) (l : h < t) where
+module _ {W : Wires} {a b roles m q w o : List ℕ} {h t : ℕ} (S : Scan W a b roles m q w o h t) (l : h < t) where
   pub here-bus : nth q h < 128
   here-bus = omega (arith, S .tree .bus h l, S .linked .wired .few)
 
-  pub turn-start : Turn W a b roles m q w h t (nth q h) (nth w (nth q h)) (nth (W .head) (nth q h))
+  pub turn-start : Turn W a b roles m q w o h t (nth q h) (nth w (nth q h)) (nth (W .head) (nth q h))
   turn-start =
       let L = S .linked .lowest (nth q h) (S .tree .bus h l) in
       record {
@@ -79,16 +79,26 @@ module _ {W : Wires} {a b roles m q w : List ℕ} {h t : ℕ} (S : Scan W a b ro
         done = λ j c v d x. absurd (L .none j (omega arith) d (x .below) (arc-touches (scene W a b roles) j c (nth q h) v x));
       }
 
-module _ {W : Wires} {a b roles m q w : List ℕ} {h t here low side : ℕ} (R : Turn W a b roles m q w h t here low side) (l : side < 512) where
-  pub turn-next : Least (W .branches) (W .first) (W .second) (side % 256 + 1) here (nth (W .after) side)
-  turn-next = after-least W (R .scan .linked) (side % 256) here side (R .under l) (R .met l)
-
--- k is the branch of the side
-module _ {W : Wires} {a b roles m q w : List ℕ} {h t here low side k : ℕ} {r : Lead} (R : Turn W a b roles m q w h t here low side) (l : side < 512) (is-k : side % 256 ≡ k)
-    (S : Leads side (nth (W .first) k) (nth (W .second) k) (nth a k) (nth b k) r) where
+module _ {W : Wires} {a b roles m q w o : List ℕ} {h t here low side : ℕ} (R : Turn W a b roles m q w o h t here low side) where
   here-marked : 0 < nth m here
-  here-marked = subst (λ (v : ℕ). 0 < nth m v) (R .is-here) (positive (scene W a b roles) m q w h (R .scan .tree .place h (R .below)))
+  here-marked = subst (λ (v : ℕ). 0 < nth m v) (R .is-here) (positive (scene W a b roles) m q w o h (R .scan .tree .place h (R .below)))
 
+  pub here-origin : nth o here < 128
+  here-origin = omega (arith, origin-of (scene W a b roles) m q w o t (R .scan .tree) here here-marked .bus, R .scan .linked .wired .few)
+
+  module _ (l : side < 512) where
+    pub turn-next : Least (W .branches) (W .first) (W .second) (side % 256 + 1) here (nth (W .after) side)
+    turn-next = after-least W (R .scan .linked) (side % 256) here side (R .under l) (R .met l)
+
+    far-bus : nth (W .far) side < W .buses
+    far-bus = far-in W (R .scan .linked) (side % 256) here side (R .under l) (R .met l)
+
+    pub far-row : nth (W .far) side < 128
+    far-row = omega (arith, far-bus, R .scan .linked .wired .few)
+
+-- k is the branch of the side, `to` the bus at its other end and `spare` its latent capacity that way
+module _ {W : Wires} {a b roles m q w o : List ℕ} {h t here low side k to spare : ℕ} (R : Turn W a b roles m q w o h t here low side) (l : side < 512) (is-k : side % 256 ≡ k)
+    (is-to : nth (W .far) side ≡ to) (is-spare : spare ≡ choose (ltb side 256) (nth a k) (nth b k)) where
   in-net : k < W .branches
   in-net = rw is-k at (R .under l)
 
@@ -98,45 +108,47 @@ module _ {W : Wires} {a b roles m q w : List ℕ} {h t here low side k : ℕ} {r
   met : Met (W .first) (W .second) here k side
   met = rw is-k at (R .met l)
 
-  -- the branch leads from `here` to the bus of `r`
-  way : Way (r .spare) here (nth (W .first) k) (nth (W .second) k) (nth a k) (nth b k) (r .bus)
+  from-first : side ≡ k → (nth (W .second) k ≡ to) × (nth a k ≡ spare)
+  from-first e = (sym (R .scan .linked .far-first k in-net) ∙ (rw e at is-to), sym (rw (lt-ltb side 256 (omega (arith, in-row))) at is-spare))
+
+  from-second : side ≡ k + 256 → (nth (W .first) k ≡ to) × (nth b k ≡ spare)
+  from-second e = (sym (R .scan .linked .far-second k in-net) ∙ (rw e at is-to), sym (rw (le-ltb side 256 (omega arith)) at is-spare))
+
+  -- the branch leads from `here` to `to`
+  way : Way spare here (nth (W .first) k) (nth (W .second) k) (nth a k) (nth b k) to
   way = by met
     where
-      by : Met (W .first) (W .second) here k side → Way (r .spare) here (nth (W .first) k) (nth (W .second) k) (nth a k) (nth b k) (r .bus)
-      by (at-first e g) = let o = S .from-first (omega (arith, in-row)) in forth g (sym (o .0)) (sym (o .1))
-      by (at-second e g) = let o = S .from-second (omega arith) in back g (sym (o .0)) (sym (o .1))
+      by : Met (W .first) (W .second) here k side → Way spare here (nth (W .first) k) (nth (W .second) k) (nth a k) (nth b k) to
+      by (at-first e g) = let y = from-first e in forth g (y .0) (y .1)
+      by (at-second e g) = let y = from-second e in back g (y .0) (y .1)
 
-  to-bus : r .bus < W .buses
-  to-bus = by way
-    where
-      by : Way (r .spare) here (nth (W .first) k) (nth (W .second) k) (nth a k) (nth b k) (r .bus) → r .bus < W .buses
-      by (forth p g e) = rw (← g) (R .scan .linked .wired .second-in k in-net)
-      by (back p g e) = rw (← g) (R .scan .linked .wired .first-in k in-net)
+  to-bus : to < W .buses
+  to-bus = rw is-to at (far-bus R l)
 
-  pub to-row : r .bus < 128
-  to-row = omega (arith, to-bus, R .scan .linked .wired .few)
+  to-row : to < 128
+  to-row = rw is-to at (far-row R l)
 
   -- and to no other bus that is not marked yet
-  covers : (c v : ℕ) → Arc (scene W a b roles) k c here v → (0 < nth m v) ⊎ ((r .bus ≡ v) × (r .spare ≡ c))
+  covers : (c v : ℕ) → Arc (scene W a b roles) k c here v → (0 < nth m v) ⊎ ((to ≡ v) × (spare ≡ c))
   covers c v x = pick (ℕ-discrete v here)
     where
-      ways : (v ≡ here → ⊥) → Met (W .first) (W .second) here k side → Way c here (nth (W .first) k) (nth (W .second) k) (nth a k) (nth b k) v → (r .bus ≡ v) × (r .spare ≡ c)
-      ways d (at-first e i) (forth p g s) = let o = S .from-first (omega (arith, in-row)) in (o .0 ∙ g, o .1 ∙ s)
+      ways : (v ≡ here → ⊥) → Met (W .first) (W .second) here k side → Way c here (nth (W .first) k) (nth (W .second) k) (nth a k) (nth b k) v → (to ≡ v) × (spare ≡ c)
+      ways d (at-first e i) (forth p g s) = let y = from-first e in (sym (y .0) ∙ g, sym (y .1) ∙ s)
       ways d (at-first e i) (back p g s) = absurd (d (sym g ∙ i))
       ways d (at-second e i) (forth p g s) = absurd (d (sym g ∙ i))
-      ways d (at-second e i) (back p g s) = let o = S .from-second (omega arith) in (o .0 ∙ g, o .1 ∙ s)
+      ways d (at-second e i) (back p g s) = let y = from-second e in (sym (y .0) ∙ g, sym (y .1) ∙ s)
 
-      pick : Dec (v ≡ here) → (0 < nth m v) ⊎ ((r .bus ≡ v) × (r .spare ≡ c))
-      pick (yes e) = inl (rw e here-marked)
+      pick : Dec (v ≡ here) → (0 < nth m v) ⊎ ((to ≡ v) × (spare ≡ c))
+      pick (yes e) = inl (rw e (here-marked R))
       pick (no d) = inr (ways d met (x .way))
 
   next : Least (W .branches) (W .first) (W .second) (k + 1) here (nth (W .after) side)
   next = rw is-k at (turn-next R l)
 
-  -- to the next branch of `here`; marks, queue and rooms may have grown
-  step : (m′ q′ w′ : List ℕ) (t′ : ℕ) → Scan W a b roles m′ q′ w′ h t′ → h < t′ → nth q′ h ≡ here → nth w′ here ≡ low → ((v : ℕ) → 0 < nth m v → 0 < nth m′ v)
-      → ((c v : ℕ) → Arc (scene W a b roles) k c here v → 0 < nth m′ v) → Turn W a b roles m′ q′ w′ h t′ here low (nth (W .after) side)
-  step m′ q′ w′ t′ C d e e′ wid last = record { scan = C; below = d; is-here = e; is-low = e′; top = next .top; under = next .under; met = next .met; done = each }
+  -- to the next branch of `here`; marks, queue, rooms and origins may have grown
+  step : (m′ q′ w′ o′ : List ℕ) (t′ : ℕ) → Scan W a b roles m′ q′ w′ o′ h t′ → h < t′ → nth q′ h ≡ here → nth w′ here ≡ low → ((v : ℕ) → 0 < nth m v → 0 < nth m′ v)
+      → ((c v : ℕ) → Arc (scene W a b roles) k c here v → 0 < nth m′ v) → Turn W a b roles m′ q′ w′ o′ h t′ here low (nth (W .after) side)
+  step m′ q′ w′ o′ t′ C d e e′ wid last = record { scan = C; below = d; is-here = e; is-low = e′; top = next .top; under = next .under; met = next .met; done = each }
     where
       each : (j c v : ℕ) → j < branchOf (nth (W .after) side) → Arc (scene W a b roles) j c here v → 0 < nth m′ v
       each j c v d′ x = elim (order j k) [
@@ -146,92 +158,101 @@ module _ {W : Wires} {a b roles m q w : List ℕ} {h t here low side k : ℕ} {r
       ]
 
   -- a branch that brings nothing new: no latent capacity that way, or a bus that is marked
-  skip : (0 < r .spare → nth m (r .bus) ≡ 0 → ⊥) → Turn W a b roles m q w h t here low (nth (W .after) side)
-  skip f = step m q w t (R .scan) (R .below) (R .is-here) (R .is-low) (λ v g. g) last
+  skip : (0 < spare → nth m to ≡ 0 → ⊥) → Turn W a b roles m q w o h t here low (nth (W .after) side)
+  skip f = step m q w o t (R .scan) (R .below) (R .is-here) (R .is-low) (λ v g. g) last
     where
       last : (c v : ℕ) → Arc (scene W a b roles) k c here v → 0 < nth m v
       last c v x = ⊎-elim (λ g. g) (λ e. subst (λ (u : ℕ). 0 < nth m u) (e .0) (let n = f (rw (e .1) (x .some)) in omega arith)) (covers c v x)
 
-  pub turn-skip : (0 < r .spare → nth m (r .bus) ≡ 0 → ⊥)
-      → {m₁ q₁ w₁ : List ℕ} {t₁ : ℕ} → m₁ ≡ m → q₁ ≡ q → t₁ ≡ t → w₁ ≡ w → Turn W a b roles m₁ q₁ w₁ h t₁ here low (nth (W .after) side)
-  turn-skip f i j l′ i′ = rw (i, j, l′, i′) (skip f)
+  pub turn-skip : (0 < spare → nth m to ≡ 0 → ⊥)
+      → {m₁ q₁ w₁ o₁ : List ℕ} {t₁ : ℕ} → m₁ ≡ m → q₁ ≡ q → o₁ ≡ o → t₁ ≡ t → w₁ ≡ w → Turn W a b roles m₁ q₁ w₁ o₁ h t₁ here low (nth (W .after) side)
+  turn-skip f i j j′ l′ i′ = rw (i, j, j′, l′, i′) (skip f)
 
   -- a bus that is new
-  module _ (some : 0 < r .spare) (z : nth m (r .bus) ≡ 0) (least : ℕ) (is-least : least ≡ min low (r .spare)) where
-    new-room : nth (set w (r .bus) least) (r .bus) ≡ least
-    new-room = getD-set-same w (r .bus) least 0 (omega (arith, to-row, R .scan .tree .wide))
+  module _ (some : 0 < spare) (z : nth m to ≡ 0) (least : ℕ) (is-least : least ≡ min low spare) where
+    new-room : nth (set w to least) to ≡ least
+    new-room = getD-set-same w to least 0 (omega (arith, to-row, R .scan .tree .wide))
 
-    keep : (v : ℕ) → (v ≡ r .bus → ⊥) → nth (set w (r .bus) least) v ≡ nth w v
-    keep v n = getD-set-other w (r .bus) v least 0 n
+    keep : (v : ℕ) → (v ≡ to → ⊥) → nth (set w to least) v ≡ nth w v
+    keep v n = getD-set-other w to v least 0 n
 
-    long-w : length (set w (r .bus) least) ≡ 128
-    long-w = length-set w (r .bus) least ∙ R .scan .tree .wide
+    long-w : length (set w to least) ≡ 128
+    long-w = length-set w to least ∙ R .scan .tree .wide
 
-    arc : Arc (scene W a b roles) k (r .spare) (nth q h) (r .bus)
+    new-origin : nth (set o to (nth o here)) to ≡ nth o here
+    new-origin = getD-set-same o to (nth o here) 0 (omega (arith, to-row, R .scan .tree .whole))
+
+    keep-o : (v : ℕ) → (v ≡ to → ⊥) → nth (set o to (nth o here)) v ≡ nth o v
+    keep-o v n = getD-set-other o to v (nth o here) 0 n
+
+    long-o : length (set o to (nth o here)) ≡ 128
+    long-o = length-set o to (nth o here) ∙ R .scan .tree .whole
+
+    arc : Arc (scene W a b roles) k spare (nth q h) to
     arc = record { below = in-net; some = some; way = rw (R .is-here) way }
 
-    new-link : New (scene W a b roles) q w t (r .bus) (k + 2) (nth (set w (r .bus) least) (r .bus))
-    new-link = link h k (r .spare) (R .below) arc refl (rw (new-room, R .is-here, R .is-low) is-least)
+    new-link : New (scene W a b roles) q w o t to (k + 2) (nth (set w to least) to) (nth (set o to (nth o here)) to)
+    new-link = link h k spare (R .below) arc refl (rw (new-room, R .is-here, R .is-low) is-least) (rw (new-origin, R .is-here) refl)
 
     pub turn-room : t < 128
-    turn-room = omega (arith, fit-q (scene W a b roles) m q w (set w (r .bus) least) t (r .bus) (k + 2) (R .scan .tree) to-bus z (omega arith) long-w keep, R .scan .tree .slots)
+    turn-room = omega (arith, fit-q (scene W a b roles) m q w (set w to least) o (set o to (nth o here)) t to (k + 2) (R .scan .tree) to-bus z (omega arith) long-w keep long-o keep-o, R .scan .tree .slots)
 
-    pub turn-tree : Tree (scene W a b roles) (set m (r .bus) (k + 2)) (set q t (r .bus)) (set w (r .bus) least) (t + 1)
-    turn-tree = grow (scene W a b roles) m q w (set w (r .bus) least) t (r .bus) (k + 2) (R .scan .tree) to-bus z (omega arith) long-w keep new-link
+    pub turn-tree : Tree (scene W a b roles) (set m to (k + 2)) (set q t to) (set w to least) (set o to (nth o here)) (t + 1)
+    turn-tree = grow (scene W a b roles) m q w (set w to least) o (set o to (nth o here)) t to (k + 2) (R .scan .tree) to-bus z (omega arith) long-w keep long-o keep-o new-link
 
-    to-in : r .bus < length m
+    to-in : to < length m
     to-in = omega (arith, to-row, R .scan .tree .long)
 
-    wider : (v : ℕ) → 0 < nth m v → 0 < nth (set m (r .bus) (k + 2)) v
-    wider v g = still-positive m (r .bus) (k + 2) v to-in (omega arith) g
+    wider : (v : ℕ) → 0 < nth m v → 0 < nth (set m to (k + 2)) v
+    wider v g = still-positive m to (k + 2) v to-in (omega arith) g
 
-    to-marked : 0 < nth (set m (r .bus) (k + 2)) (r .bus)
-    to-marked = rw (getD-set-same m (r .bus) (k + 2) 0 to-in) (omega arith)
+    to-marked : 0 < nth (set m to (k + 2)) to
+    to-marked = rw (getD-set-same m to (k + 2) 0 to-in) (omega arith)
 
-    pub turn-hit : nth roles (r .bus) ≡ 2 → Routed (scene W a b roles) (set m (r .bus) (k + 2)) (r .bus) least
+    pub turn-hit : nth roles to ≡ 2 → Routed (scene W a b roles) (set m to (k + 2)) to least (nth o here)
     turn-hit g =
         record {
           bus = to-bus;
           goal = g;
-          some = rw new-room at (room-of (scene W a b roles) (set m (r .bus) (k + 2)) (set q t (r .bus)) (set w (r .bus) least) (t + 1) turn-tree (r .bus) to-marked);
+          some = rw new-room at (room-of (scene W a b roles) (set m to (k + 2)) (set q t to) (set w to least) (set o to (nth o here)) (t + 1) turn-tree to to-marked);
           trail = found .0;
-          origin = found .1;
+          starts = found .1;
+          origin = rw new-origin at (origin-of (scene W a b roles) (set m to (k + 2)) (set q t to) (set w to least) (set o to (nth o here)) (t + 1) turn-tree to to-marked);
         }
       where
-        found : (x : Trail (W .branches) (W .first) (W .second) a b (set m (r .bus) (k + 2)) (r .bus) least) × Start (scene W a b roles) (x .from)
+        found : (x : Trail (W .branches) (W .first) (W .second) a b (set m to (k + 2)) to least) × (x .from ≡ nth o here)
         found =
-            subst
-            (λ (y : ℕ). (x : Trail (W .branches) (W .first) (W .second) a b (set m (r .bus) (k + 2)) (r .bus) y) × Start (scene W a b roles) (x .from))
-            new-room
-            (trail-of (scene W a b roles) (set m (r .bus) (k + 2)) (set q t (r .bus)) (set w (r .bus) least) (t + 1) turn-tree (r .bus) to-marked)
+            rw (new-room, new-origin) at
+            (trail-of (scene W a b roles) (set m to (k + 2)) (set q t to) (set w to least) (set o to (nth o here)) (t + 1) turn-tree to to-marked)
 
-    queue-old : (p : ℕ) → p < t → nth (set q t (r .bus)) p ≡ nth q p
-    queue-old p d = getD-set-other q t p (r .bus) 0 (omega arith)
+    queue-old : (p : ℕ) → p < t → nth (set q t to) p ≡ nth q p
+    queue-old p d = getD-set-other q t p to 0 (omega arith)
 
-    turn-scan : (nth roles (r .bus) ≡ 2 → ⊥) → Scan W a b roles (set m (r .bus) (k + 2)) (set q t (r .bus)) (set w (r .bus) least) h (t + 1)
+    turn-scan : (nth roles to ≡ 2 → ⊥) → Scan W a b roles (set m to (k + 2)) (set q t to) (set w to least) (set o to (nth o here)) h (t + 1)
     turn-scan f =
         record {
           linked = R .scan .linked;
           tree = turn-tree;
           within = omega (arith, R .below);
           seeds = λ v d s. wider v (R .scan .seeds v d s);
-          apart = λ v g. ⊎-elim (λ e. rw e f) (λ g′. R .scan .apart v g′) (either-place m (r .bus) (k + 2) v g);
+          apart = λ v g. ⊎-elim (λ e. rw e f) (λ g′. R .scan .apart v g′) (either-place m to (k + 2) v g);
           closed = λ p j c v d x. wider v (R .scan .closed p j c v d (rw (queue-old p (omega (arith, R .below))) at x));
         }
 
-    turn-done : (c v : ℕ) → Arc (scene W a b roles) k c here v → 0 < nth (set m (r .bus) (k + 2)) v
-    turn-done c v x = ⊎-elim (wider v) (λ e. subst (λ (u : ℕ). 0 < nth (set m (r .bus) (k + 2)) u) (e .0) to-marked) (covers c v x)
+    turn-done : (c v : ℕ) → Arc (scene W a b roles) k c here v → 0 < nth (set m to (k + 2)) v
+    turn-done c v x = ⊎-elim (wider v) (λ e. subst (λ (u : ℕ). 0 < nth (set m to (k + 2)) u) (e .0) to-marked) (covers c v x)
 
-    here-old : here ≡ r .bus → ⊥
-    here-old e = let g : 0 < nth m (r .bus) = subst (λ (v : ℕ). 0 < nth m v) e here-marked in omega arith
+    here-old : here ≡ to → ⊥
+    here-old e = let g : 0 < nth m to = subst (λ (v : ℕ). 0 < nth m v) e (here-marked R) in omega arith
 
-    pub turn-mark : (nth roles (r .bus) ≡ 2 → ⊥)
-        → {m₁ q₁ w₁ : List ℕ} {t₁ : ℕ} → m₁ ≡ set m (r .bus) (k + 2) → q₁ ≡ set q t (r .bus) → t₁ ≡ t + 1 → w₁ ≡ set w (r .bus) least → Turn W a b roles m₁ q₁ w₁ h t₁ here low (nth (W .after) side)
-    turn-mark f i j l′ i′ =
-        rw (i, j, l′, i′) (step
-        (set m (r .bus) (k + 2))
-        (set q t (r .bus))
-        (set w (r .bus) least)
+    pub turn-mark : (nth roles to ≡ 2 → ⊥)
+        → {m₁ q₁ w₁ o₁ : List ℕ} {t₁ : ℕ} → m₁ ≡ set m to (k + 2) → q₁ ≡ set q t to → o₁ ≡ set o to (nth o here) → t₁ ≡ t + 1 → w₁ ≡ set w to least → Turn W a b roles m₁ q₁ w₁ o₁ h t₁ here low (nth (W .after) side)
+    turn-mark f i j j′ l′ i′ =
+        rw (i, j, j′, l′, i′) (step
+        (set m to (k + 2))
+        (set q t to)
+        (set w to least)
+        (set o to (nth o here))
         (t + 1)
         (turn-scan f)
         (omega (arith, R .below))
@@ -240,8 +261,8 @@ module _ {W : Wires} {a b roles m q w : List ℕ} {h t here low side k : ℕ} {r
         wider
         turn-done)
 
-pub turn-end : {W : Wires} {a b roles m q w : List ℕ} {h t here low side : ℕ} → Turn W a b roles m q w h t here low side → 512 ≤ side → Scan W a b roles m q w (h + 1) t
-turn-end {W} {a} {b} {roles} {m} {q} {w} {h} {t} {here} {low} {side} R l =
+pub turn-end : {W : Wires} {a b roles m q w o : List ℕ} {h t here low side : ℕ} → Turn W a b roles m q w o h t here low side → 512 ≤ side → Scan W a b roles m q w o (h + 1) t
+turn-end {W} {a} {b} {roles} {m} {q} {w} {o} {h} {t} {here} {low} {side} R l =
     record {
       linked = R .scan .linked;
       tree = R .scan .tree;
@@ -256,10 +277,10 @@ turn-end {W} {a} {b} {roles} {m} {q} {w} {h} {t} {here} {low} {side} R l =
     last j c v x = R .done j c v (omega (arith, x .below, R .scan .linked .wired .size)) x
 
 -- With every queued bus done, the marked buses are those reached.
-pub scan-reached : {W : Wires} {a b roles m q w : List ℕ} {h t : ℕ} → Scan W a b roles m q w h t → t ≤ h → Reached (Step (scene W a b roles)) (Start (scene W a b roles)) (W .buses) (marked m)
-scan-reached {W} {a} {b} {roles} {m} {q} {w} {h} {t} S l =
+pub scan-reached : {W : Wires} {a b roles m q w o : List ℕ} {h t : ℕ} → Scan W a b roles m q w o h t → t ≤ h → Reached (Step (scene W a b roles)) (Start (scene W a b roles)) (W .buses) (marked m)
+scan-reached {W} {a} {b} {roles} {m} {q} {w} {o} {h} {t} S l =
     record {
-      sound = λ v d g. marked-reached (scene W a b roles) m q w t (S .tree) v (ltb-true 0 (nth m v) g);
+      sound = λ v d g. marked-reached (scene W a b roles) m q w o t (S .tree) v (ltb-true 0 (nth m v) g);
       complete = λ v r. lt-ltb 0 (nth m v) (all-marked r);
     }
   where

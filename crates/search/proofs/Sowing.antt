@@ -13,28 +13,31 @@ use Rattle.search.specs.Inside.{Tree, Blank, Seeded}
 use Rattle.search.proofs.Rows.{blank, either-place, still-positive}
 use Rattle.search.proofs.Tree.{seed, grow}
 
-pub record Sow (n : ℕ) (roles m q : List ℕ) (t v : ℕ) : Type 0 where
+pub record Sow (n : ℕ) (roles m q o : List ℕ) (t v : ℕ) : Type 0 where
   pub few : n ≤ 128
   pub within : v ≤ n
   pub long : length m ≡ 128
   pub slots : length q ≡ 128
+  pub whole : length o ≡ 128
   pub less : t ≤ v
-  pub tree : (N : Scene) (w : List ℕ) → N .buses ≡ n → N .roles ≡ roles → length w ≡ 128 → ((u : ℕ) → u < 128 → nth w u ≡ 4294967295) → Tree N m q w t
+  pub tree : (N : Scene) (w : List ℕ) → N .buses ≡ n → N .roles ≡ roles → length w ≡ 128 → ((u : ℕ) → u < 128 → nth w u ≡ 4294967295) → Tree N m q w o t
   pub rest : (u : ℕ) → v ≤ u → nth m u ≡ 0
   pub seeds : (u : ℕ) → u < v → nth roles u ≡ 1 → 0 < nth m u
   pub apart : (u : ℕ) → 0 < nth m u → nth roles u ≡ 2 → ⊥
 
-pub sow-none : {n : ℕ} {roles m q : List ℕ} → Blank n m q → Sow n roles m q 0 0
+pub sow-none : {n : ℕ} {roles m q o : List ℕ} → Blank n m q o → Sow n roles m q o 0 0
 sow-none B = rw (B .blank) (record {
   few = B .few;
   within = omega arith;
   long = refl;
   slots = B .slots;
+  whole = B .whole;
   less = omega arith;
   tree = λ N w same roled wide full. record {
     long = refl;
     slots = B .slots;
     wide = wide;
+    whole = B .whole;
     small = omega (arith, B .few);
     count = refl;
     bus = λ p h. absurd (omega arith);
@@ -47,14 +50,15 @@ sow-none B = rw (B .blank) (record {
   apart = λ u g. absurd (omega (arith, blank 128 u));
 })
 
-module _ {n : ℕ} {roles m q : List ℕ} {t v : ℕ} (S : Sow n roles m q t v) (b : v < n) where
-  pub sow-skip : (nth roles v ≡ 1 → ⊥) → Sow n roles m q t (v + 1)
+module _ {n : ℕ} {roles m q o : List ℕ} {t v : ℕ} (S : Sow n roles m q o t v) (b : v < n) where
+  pub sow-skip : (nth roles v ≡ 1 → ⊥) → Sow n roles m q o t (v + 1)
   sow-skip f =
       record {
         few = S .few;
         within = omega arith;
         long = S .long;
         slots = S .slots;
+        whole = S .whole;
         less = omega (arith, S .less);
         tree = S .tree;
         rest = λ u l. S .rest u (omega arith);
@@ -69,15 +73,36 @@ module _ {n : ℕ} {roles m q : List ℕ} {t v : ℕ} (S : Sow n roles m q t v) 
     v-marked : 0 < nth (set m v 1) v
     v-marked = rw (getD-set-same m v 1 0 v-in) (omega arith)
 
-    pub sow-mark : Sow n roles (set m v 1) (set q t v) (t + 1) (v + 1)
+    pub sow-mark : Sow n roles (set m v 1) (set q t v) (set o v v) (t + 1) (v + 1)
     sow-mark =
         record {
           few = S .few;
           within = omega arith;
           long = length-set m v 1 ∙ S .long;
           slots = length-set q t v ∙ S .slots;
+          whole = length-set o v v ∙ S .whole;
           less = omega (arith, S .less);
-          tree = λ N w same roled wide full. grow N m q w w t v 1 (S .tree N w same roled wide full) (omega arith) (S .rest v (omega arith)) (omega arith) wide (λ u d. refl) (seed (rw roled s) refl (full v (omega (arith, S .few))));
+          tree =
+              λ N w same roled wide full. grow
+              N
+              m
+              q
+              w
+              w
+              o
+              (set o v v)
+              t
+              v
+              1
+              (S .tree N w same roled wide full)
+              (omega arith)
+              (S .rest v (omega arith))
+              (omega arith)
+              wide
+              (λ u d. refl)
+              (length-set o v v ∙ S .whole)
+              (λ u d. getD-set-other o v u v 0 d)
+              (seed (rw roled s) refl (full v (omega (arith, S .few))) (getD-set-same o v v 0 (omega (arith, S .whole, S .few))));
           rest = λ u l. rw (getD-set-other m v u 1 0 (omega arith)) (S .rest u (omega arith));
           seeds = below-more (λ (u : ℕ). nth roles u ≡ 1 → 0 < nth (set m v 1) u) v (λ u l e. still-positive m v 1 u v-in (omega arith) (S .seeds u l e)) (λ e. v-marked);
           apart = λ u g r. ⊎-elim (λ e. no-goal (rw e at r)) (λ g′. S .apart u g′ r) (either-place m v 1 u g);
@@ -86,5 +111,5 @@ module _ {n : ℕ} {roles m q : List ℕ} {t v : ℕ} (S : Sow n roles m q t v) 
         no-goal : nth roles v ≡ 2 → ⊥
         no-goal r = omega arith
 
-pub sow-end : {n : ℕ} {roles m q : List ℕ} {t v : ℕ} → Sow n roles m q t v → n ≤ v → Seeded n roles m q t
+pub sow-end : {n : ℕ} {roles m q o : List ℕ} {t v : ℕ} → Sow n roles m q o t v → n ≤ v → Seeded n roles m q o t
 sow-end S l = record { tree = S .tree; seeds = λ u b e. S .seeds u (omega arith) e; apart = S .apart }

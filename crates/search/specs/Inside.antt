@@ -9,17 +9,11 @@ use Rattle.search.specs.declared.Work.{Work}
 use Rattle.search.specs.declared.Search.{Search}
 use Rattle.search.specs.declared.Search.the-variants.{Route, Group}
 use Rattle.search.specs.declared.Found.{Found}
-use Rattle.search.specs.declared.Lead.{Lead}
 
--- `leads`: from the end of a branch that a side meets to the other end, with the latent capacity that way.
-pub record Leads (side a b x y : ℕ) (r : Lead) : Type 0 where
-  pub from-first : side < 256 → (r .bus ≡ b) × (r .spare ≡ x)
-  pub from-second : 256 ≤ side → (r .bus ≡ a) × (r .spare ≡ y)
-
--- The bus at place p of the queue is a start, or is joined by the branch of its mark to a bus at an earlier place; w has the room of each bus.
-pub data Placed (N : Scene) (m q w : List ℕ) (p : ℕ) : Type 0 where
-  root : nth (N .roles) (nth q p) ≡ 1 → nth m (nth q p) ≡ 1 → nth w (nth q p) ≡ 4294967295 → Placed N m q w p
-  joined : (j k c : ℕ) → j < p → Arc N k c (nth q j) (nth q p) → nth m (nth q p) ≡ k + 2 → nth w (nth q p) ≡ min (nth w (nth q j)) c → Placed N m q w p
+-- The bus at place p of the queue is a start, or is joined by the branch of its mark to a bus at an earlier place; w has the room of each bus and o its origin, the start of its way.
+pub data Placed (N : Scene) (m q w o : List ℕ) (p : ℕ) : Type 0 where
+  root : nth (N .roles) (nth q p) ≡ 1 → nth m (nth q p) ≡ 1 → nth w (nth q p) ≡ 4294967295 → nth o (nth q p) ≡ nth q p → Placed N m q w o p
+  joined : (j k c : ℕ) → j < p → Arc N k c (nth q j) (nth q p) → nth m (nth q p) ≡ k + 2 → nth w (nth q p) ≡ min (nth w (nth q j)) c → nth o (nth q p) ≡ nth o (nth q j) → Placed N m q w o p
 
 abbrev pub none : ℕ → ℕ
 none zero = 1
@@ -30,26 +24,28 @@ abbrev pub zeros : List ℕ → ℕ
 zeros [] = 0
 zeros (x ∷ xs) = none x + zeros xs
 
--- What the marks, the queue and the rooms hold after t buses were queued.
-pub record Tree (N : Scene) (m q w : List ℕ) (t : ℕ) : Type 0 where
+-- What the marks, the queue, the rooms and the origins hold after t buses were queued.
+pub record Tree (N : Scene) (m q w o : List ℕ) (t : ℕ) : Type 0 where
   pub long : length m ≡ 128
   pub slots : length q ≡ 128
   pub wide : length w ≡ 128
+  pub whole : length o ≡ 128
   pub small : N .buses ≤ 128
   pub count : zeros m + t ≡ 128
   pub bus : (p : ℕ) → p < t → nth q p < N .buses
-  pub place : (p : ℕ) → p < t → Placed N m q w p
+  pub place : (p : ℕ) → p < t → Placed N m q w o p
   pub held : (v : ℕ) → 0 < nth m v → (p : ℕ) × (p < t) × (nth q p ≡ v)
   pub once : (p p′ : ℕ) → p < p′ → p′ < t → nth q p ≡ nth q p′ → ⊥
 
--- `seed`: it asks for marks of 0 and a whole queue, and gives a tree of starts alone, whatever the branches are, in which every start is marked and no goal.
-pub record Blank (n : ℕ) (m q : List ℕ) : Type 0 where
+-- `seed`: it asks for marks of 0, a whole queue and a whole row of origins, and gives a tree of starts alone, whatever the branches are, in which every start is marked and no goal.
+pub record Blank (n : ℕ) (m q o : List ℕ) : Type 0 where
   pub few : n ≤ 128
   pub blank : m ≡ replicate 128 0
   pub slots : length q ≡ 128
+  pub whole : length o ≡ 128
 
-pub record Seeded (n : ℕ) (roles m q : List ℕ) (t : ℕ) : Type 0 where
-  pub tree : (N : Scene) (w : List ℕ) → N .buses ≡ n → N .roles ≡ roles → length w ≡ 128 → ((v : ℕ) → v < 128 → nth w v ≡ 4294967295) → Tree N m q w t
+pub record Seeded (n : ℕ) (roles m q o : List ℕ) (t : ℕ) : Type 0 where
+  pub tree : (N : Scene) (w : List ℕ) → N .buses ≡ n → N .roles ≡ roles → length w ≡ 128 → ((v : ℕ) → v < 128 → nth w v ≡ 4294967295) → Tree N m q w o t
   pub seeds : (v : ℕ) → v < n → nth roles v ≡ 1 → 0 < nth m v
   pub apart : (v : ℕ) → 0 < nth m v → nth roles v ≡ 2 → ⊥
 
@@ -64,7 +60,7 @@ pub record Byte (m : List ℕ) (at r : ℕ) : Type 0 where
   pub bit : (i : ℕ) → i < 8 → r / 2 ^ (7 - i) % 2 ≡ flagOf (nth m (at + i))
 
 abbrev pub Shown : Search → List ℕ → List ℕ → Type 0
-Shown (Route v r) m g = g ≡ replicate 16 0
+Shown (Route v r s) m g = g ≡ replicate 16 0
 Shown Group m g = Bits m g
 
 -- `packed`: the parts of an answer, with the group's bits beside it.

@@ -1,4 +1,4 @@
--- What one search says: a route with its smallest latent capacity, or the group reached.
+-- What one search says: a route with its smallest latent capacity and its start, or the group reached.
 use mathlib.Core.Path.{_≡_}
 use mathlib.Core.Bool.{Bool, true, false}
 use mathlib.Core.List.{List, [], _∷_}
@@ -104,12 +104,14 @@ pub record Trail (n : ℕ) (f s a b m : List ℕ) (v r : ℕ) : Type 0 where
   pub branches-once : Distinct ks
   pub buses-once : Distinct (stops f s v ks)
 
-pub record Routed (N : Scene) (m : List ℕ) (v r : ℕ) : Type 0 where
+-- A route from the start s to the goal v.
+pub record Routed (N : Scene) (m : List ℕ) (v r s : ℕ) : Type 0 where
   pub bus : v < N .buses
   pub goal : nth (N .roles) v ≡ 2
   pub some : 0 < r
   pub trail : Trail (N .branches) (N .first) (N .second) (N .ahead) (N .back) m v r
-  pub origin : Start N (trail .from)
+  pub starts : trail .from ≡ s
+  pub origin : Start N s
 
 -- The first t places of the queue hold each marked bus once, and no other.
 pub record Queued (n : ℕ) (m q : List ℕ) (t : ℕ) : Type 0 where
@@ -120,7 +122,7 @@ pub record Queued (n : ℕ) (m q : List ℕ) (t : ℕ) : Type 0 where
   pub once : (p p′ : ℕ) → p < p′ → p′ < t → nth q p ≡ nth q p′ → ⊥
 
 abbrev pub Said : Scene → List ℕ → List ℕ → Search → Type 0
-Said N m g (Route v r) = Routed N m v r × (g ≡ replicate 16 0)
+Said N m g (Route v r s) = Routed N m v r s × (g ≡ replicate 16 0)
 Said N m g Group = Grouped N m g
 
 -- What a search asks for: links, and no mark yet.

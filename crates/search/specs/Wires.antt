@@ -34,12 +34,14 @@ pub record Least (n : ℕ) (f s : List ℕ) (low v side : ℕ) : Type 0 where
   pub met : side < 512 → Met f s v (side % 256) side
   pub none : (j : ℕ) → low ≤ j → j < branchOf side → j < n → Touches f s j v → ⊥
 
--- `head` of a bus is the side of its lowest branch; after each side of a branch stands the next one at the same bus.
+-- `head` of a bus is the side of its lowest branch; after each side of a branch stands the next one at the same bus, and `far` has the bus at the other end.
 pub record Linked (W : Wires) : Type 0 where
   pub wired : Wired (W .buses) (W .branches) (W .first) (W .second)
   pub lowest : (v : ℕ) → v < W .buses → Least (W .branches) (W .first) (W .second) 0 v (nth (W .head) v)
   pub next-first : (k : ℕ) → k < W .branches → Least (W .branches) (W .first) (W .second) (k + 1) (nth (W .first) k) (nth (W .after) k)
   pub next-second : (k : ℕ) → k < W .branches → Least (W .branches) (W .first) (W .second) (k + 1) (nth (W .second) k) (nth (W .after) (k + 256))
+  pub far-first : (k : ℕ) → k < W .branches → nth (W .far) k ≡ nth (W .second) k
+  pub far-second : (k : ℕ) → k < W .branches → nth (W .far) (k + 256) ≡ nth (W .first) k
 
 -- What `link` gives: the rows as they were, linked.
 pub record Wiring (buses branches : ℕ) (f s : List ℕ) (W : Wires) : Type 0 where

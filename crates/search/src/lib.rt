@@ -1,14 +1,15 @@
 // A breadth-first search over the latent capacities of a network of at most 128 buses and 256 branches.
 // What is public here serves the crates above alone, which meet what it requires.
 ghost use Rattle.search.specs.Wires.{Wired, Wiring};
-ghost use Rattle.search.specs.Search.{Bits, Searchable, Searched};
-ghost use Rattle.search.specs.Inside.{Leads, Blank, Seeded, flagOf, Byte, Packed};
+ghost use Rattle.search.specs.Search.{choose, Bits, Searchable, Searched};
+ghost use Rattle.search.specs.Inside.{Blank, Seeded, flagOf, Byte, Packed};
 ghost use Prim.Native.Nat.{_<_, _≤_, _+_, min};
 ghost use mathlib.Core.Path.{_≡_};
+ghost use lib.Dec.{ltb};
 
 // The ends of the branches, and links that give the branches of a bus in rising number.
 // A link is a side: k is branch k met at its first end, 256 + k is branch k met at its second end, 512 is none.
-// So the scan finds the next side by one load, and knows which end it met without a comparison of buses.
+// So the scan finds the next side by one load, and the bus at the other end of a side by another, without a comparison of buses.
 pub struct Wires {
     pub buses: usize,
     pub branches: usize,
@@ -16,6 +17,7 @@ pub struct Wires {
     pub second: [u8; 256],
     pub head: [u16; 128],
     pub after: [u16; 512],
+    pub far: [u8; 512],
 }
 
 // What one search works on: marks, all 0 at first, the queue, and the latent capacity of each branch either way.
@@ -27,7 +29,11 @@ pub struct Work {
 }
 
 pub enum Search {
-    Route { goal: usize, room: u32 },
+    Route {
+        goal: usize,
+        room: u32,
+        start: usize,
+    },
     Group,
 }
 
@@ -37,11 +43,6 @@ pub struct Found {
     pub taken: usize,
     pub group: [u8; 16],
     pub work: Work,
-}
-
-struct Lead {
-    bus: usize,
-    spare: u32,
 }
 
 pub fn smaller(x: u32, y: u32) -> u32
@@ -57,6 +58,7 @@ pub fn link(buses: usize, branches: usize, first: [u8; 256], second: [u8; 256]) 
 {
     let mut head = [512u16; 128];
     let mut after = [512u16; 512];
+    let mut far = [0u8; 512];
     let mut k = branches;
     while k > 0 {
         k -= 1;
@@ -66,6 +68,8 @@ pub fn link(buses: usize, branches: usize, first: [u8; 256], second: [u8; 256]) 
         after[k + 256] = head[b];
         head[a] = k as u16;
         head[b] = (k + 256) as u16;
+        far[k] = second[k];
+        far[k + 256] = first[k];
     }
     Wires {
         buses,
@@ -74,29 +78,27 @@ pub fn link(buses: usize, branches: usize, first: [u8; 256], second: [u8; 256]) 
         second,
         head,
         after,
+        far,
     }
 }
 
-fn leads(side: usize, a: u8, b: u8, x: u32, y: u32) -> Lead
-    ensures { λ r. ⌜ Leads side a b x y r ⌝ }
+// The latent capacity of a branch away from the end where a side meets it: x ahead, y back.
+fn latent(side: usize, x: u32, y: u32) -> u32
+    ensures { λ r. ⌜ r ≡ choose (ltb side 256) x y ⌝ }
 {
-    if side < 256 {
-        Lead {
-            bus: b as usize,
-            spare: x,
-        }
-    } else {
-        Lead {
-            bus: a as usize,
-            spare: y,
-        }
-    }
+    if side < 256 { x } else { y }
 }
 
-// Every start is marked 1 and queued; the answer is how many there are.
-fn seed(buses: usize, roles: &[u8; 128], marks: &mut [u16; 128], queue: &mut [u8; 128]) -> usize
-    requires { ⌜ Blank buses (now marks) (now queue) ⌝ }
-    ensures { λ r. ⌜ Seeded buses (now (roles .entry)) (now (marks .exit)) (now (queue .exit)) r ⌝ }
+// Every start is marked 1, queued and its own origin; the answer is how many there are.
+fn seed(
+    buses: usize,
+    roles: &[u8; 128],
+    marks: &mut [u16; 128],
+    queue: &mut [u8; 128],
+    origin: &mut [u8; 128],
+) -> usize
+    requires { ⌜ Blank buses (now marks) (now queue) (now origin) ⌝ }
+    ensures { λ r. ⌜ Seeded buses (now (roles .entry)) (now (marks .exit)) (now (queue .exit)) (now (origin .exit)) r ⌝ }
 {
     let mut count: usize = 0;
     let mut v: usize = 0;
@@ -104,6 +106,7 @@ fn seed(buses: usize, roles: &[u8; 128], marks: &mut [u16; 128], queue: &mut [u8
         if roles[v] == 1 {
             marks[v] = 1;
             queue[count] = v as u8;
+            origin[v] = v as u8;
             count += 1;
         }
         v += 1;
@@ -147,7 +150,11 @@ fn packed(answer: Search, taken: usize, work: Work) -> Found
     ensures { λ r. ⌜ Packed answer taken work r ⌝ }
 {
     let group = match answer {
-        Search::Route { goal: _, room: _ } => [0u8; 16],
+        Search::Route {
+            goal: _,
+            room: _,
+            start: _,
+        } => [0u8; 16],
         Search::Group => bits(&work.marks),
     };
     Found {
@@ -165,7 +172,8 @@ pub fn explore(wires: Wires, mut work: Work, roles: [u8; 128]) -> Found
 {
     let mut marks = work.marks;
     let mut queue = work.queue;
-    let mut tail = seed(wires.buses, &roles, &mut marks, &mut queue);
+    let mut origin = [0u8; 128];
+    let mut tail = seed(wires.buses, &roles, &mut marks, &mut queue, &mut origin);
     let mut room = [4294967295u32; 128];
     let mut at: usize = 0;
     let answer = 'scan: loop {
@@ -177,20 +185,21 @@ pub fn explore(wires: Wires, mut work: Work, roles: [u8; 128]) -> Found
         let mut side = wires.head[here] as usize;
         while side < 512 {
             let k = side % 256;
-            let a = wires.first[k];
-            let b = wires.second[k];
-            let lead = leads(side, a, b, work.ahead[k], work.back[k]);
-            let to = lead.bus;
-            if lead.spare > 0 && marks[to] == 0 {
-                let least = smaller(low, lead.spare);
+            let to = wires.far[side] as usize;
+            let spare = latent(side, work.ahead[k], work.back[k]);
+            if spare > 0 && marks[to] == 0 {
+                let least = smaller(low, spare);
+                let start = origin[here] as usize;
                 marks[to] = (k + 2) as u16;
                 queue[tail] = to as u8;
                 room[to] = least;
+                origin[to] = start as u8;
                 tail += 1;
                 if roles[to] == 2 {
                     break 'scan Search::Route {
                         goal: to,
                         room: least,
+                        start,
                     };
                 }
             }

@@ -5,7 +5,7 @@ use mathlib.Core.Path.{_≡_, refl}
 use Prim.Native.Nat.{_<_}
 use lib.ListN.{length}
 use Rattle.rows.specs.Row.{nth}
-use Rattle.reroute.proofs.Rounds.{Amount, Round, round-none, round-back, goal-bus, start-bus, round-movable, in-left, round-less, round-again}
+use Rattle.reroute.proofs.Rounds.{Amount, Round, round-none, goal-bus, start-bus, round-movable, in-left, round-less, round-again}
 use Rattle.reroute.proofs.Ends.{round-done, round-stuck}
 use Rattle.reroute.proofs.reroute.Statement.{statement}
 use Rattle.reroute.proofs.reroute.Tie as tie
@@ -17,17 +17,17 @@ abbrev μ-loop : tie.MeasureT-loop
 μ-loop wires a₀ b₀ more₀ lack₀ row₀ left₀ a b more lack row left = left
 
 -- Both ends of the route stand in the rows.
-start-at : (c : tie.After-trace Inv-loop μ-loop) → c .trace .result < 128
-start-at c = start-bus (c .before .before .before .before .before .before .before .explore .ensures) (c .before .before .before .before .before .answer .given .1) (c .before .before .before .before .before .before .before .before .before .loop .inv) (c .trace .ensures)
+start-at : (c : tie.After-marks Inv-loop μ-loop) → c .before .before .before .answer .given .0 .1 .1 .0 < 128
+start-at c = start-bus (c .before .before .before .before .before .explore .ensures) (c .before .before .before .answer .given .1) (c .before .before .before .before .before .before .before .loop .inv)
 
-goal-at : (c : tie.After-trace Inv-loop μ-loop) → c .before .before .before .before .before .answer .given .0 .0 < 128
-goal-at c = goal-bus (c .before .before .before .before .before .before .before .explore .ensures) (c .before .before .before .before .before .answer .given .1) (c .before .before .before .before .before .before .before .before .before .loop .inv)
+goal-at : (c : tie.After-marks Inv-loop μ-loop) → c .before .before .before .answer .given .0 .0 < 128
+goal-at c = goal-bus (c .before .before .before .before .before .explore .ensures) (c .before .before .before .answer .given .1) (c .before .before .before .before .before .before .before .loop .inv)
 
-marks-long : (c : tie.After-trace Inv-loop μ-loop) → length (c .before .before .before .before .before .before .before .explore .result .work .marks) ≡ 128
+marks-long : (c : tie.After-marks Inv-loop μ-loop) → length (c .before .before .before .before .before .explore .result .work .marks) ≡ 128
 marks-long c = search needs
 
 -- What is moved is the smallest of three.
-amount : (c : tie.After-smaller2 Inv-loop μ-loop) → Amount (c .before .before .before .before .before .before .before .answer .given .0 .1 .0) (nth (c .before .before .before .before .before .before .before .before .before .before .before .loop .more) (c .before .before .trace .result)) (nth (c .before .before .before .before .before .before .before .before .before .before .before .loop .lack) (c .before .before .before .before .before .before .before .answer .given .0 .0)) (c .smaller2 .result)
+amount : (c : tie.After-smaller2 Inv-loop μ-loop) → Amount (c .before .before .before .before .before .answer .given .0 .1 .0) (nth (c .before .before .before .before .before .before .before .before .before .loop .more) (c .before .before .before .before .before .answer .given .0 .1 .1 .0)) (nth (c .before .before .before .before .before .before .before .before .before .loop .lack) (c .before .before .before .before .before .answer .given .0 .0)) (c .smaller2 .result)
 amount c = record { in-room = omega arith; in-surplus = omega arith; in-deficit = omega arith; some = λ p q r. omega arith }
 
 roles-requires : tie.Need-roles-requires Inv-loop μ-loop
@@ -53,12 +53,6 @@ outcome-requires c κs = tt
 
 returns : tie.Need-returns Inv-loop μ-loop
 returns c = rw (c .outcome .ensures) (round-stuck (c .before .before .before .before .explore .ensures) (c .before .before .enum-told .given .1) (omega arith) (c .before .before .before .before .before .before .loop .inv))
-
-slice-aggregate-trace : tie.Need-slice-aggregate-trace Inv-loop μ-loop
-slice-aggregate-trace c = search needs
-
-trace-requires : tie.Need-trace-requires Inv-loop μ-loop
-trace-requires c κs = round-back (c .before .before .before .before .before .before .explore .ensures) (c .before .before .before .before .answer .given .1) (c .before .before .before .before .before .before .before .before .loop .inv) (search needs)
 
 mul-s : tie.Need-mul-s Inv-loop μ-loop
 mul-s c = omega (arith, start-at c)
@@ -88,7 +82,7 @@ slice-aggregate-shift-3 : tie.Need-slice-aggregate-shift-3 Inv-loop μ-loop
 slice-aggregate-shift-3 c = search needs
 
 shift-requires : tie.Need-shift-requires Inv-loop μ-loop
-shift-requires c κs = round-movable (c .before .before .before .before .before .before .before .before .before .before .before .before .explore .ensures) (c .before .before .before .before .before .before .before .before .before .before .answer .given .1) (c .before .before .before .before .before .before .before .before .before .before .before .before .before .before .loop .inv) (c .before .before .before .before .before .trace .ensures) (amount (c .before .before .before)) (marks-long (c .before .before .before .before .before))
+shift-requires c κs = round-movable (c .before .before .before .before .before .before .before .before .before .before .explore .ensures) (c .before .before .before .before .before .before .before .before .answer .given .1) (c .before .before .before .before .before .before .before .before .before .before .before .before .loop .inv) (amount (c .before .before .before)) (marks-long (c .before .before .before .before .before))
 
 sub-more : tie.Need-sub-more Inv-loop μ-loop
 sub-more c = amount (c .before .before .before .before .before .before) .in-surplus
@@ -127,13 +121,13 @@ array-write-row-2 : tie.Need-array-write-row-2 Inv-loop μ-loop
 array-write-row-2 c = omega (arith, goal-at (c .before .before .before .before .before .before .before .before .before .before))
 
 sub-left : tie.Need-sub-left Inv-loop μ-loop
-sub-left c = in-left (c .before .before .before .before .before .before .before .before .before .before .before .before .before .before .before .before .before .explore .ensures) (c .before .before .before .before .before .before .before .before .before .before .before .before .before .before .before .answer .given .1) (c .before .before .before .before .before .before .before .before .before .before .before .before .before .before .before .before .before .before .before .loop .inv) (c .before .before .before .before .before .before .before .before .before .before .trace .ensures) (amount (c .before .before .before .before .before .before .before .before))
+sub-left c = in-left (c .before .before .before .before .before .before .before .before .before .before .before .before .before .before .before .explore .ensures) (c .before .before .before .before .before .before .before .before .before .before .before .before .before .answer .given .1) (c .before .before .before .before .before .before .before .before .before .before .before .before .before .before .before .before .before .loop .inv) (amount (c .before .before .before .before .before .before .before .before))
 
 loop-less : tie.Need-loop-less Inv-loop μ-loop
-loop-less c = round-less (c .before .before .before .before .before .before .before .before .before .before .before .before .before .before .before .before .before .explore .ensures) (c .before .before .before .before .before .before .before .before .before .before .before .before .before .before .before .answer .given .1) (c .before .before .before .before .before .before .before .before .before .before .before .before .before .before .before .before .before .before .before .loop .inv) (c .before .before .before .before .before .before .before .before .before .before .trace .ensures) (amount (c .before .before .before .before .before .before .before .before))
+loop-less c = round-less (c .before .before .before .before .before .before .before .before .before .before .before .before .before .before .before .explore .ensures) (c .before .before .before .before .before .before .before .before .before .before .before .before .before .answer .given .1) (c .before .before .before .before .before .before .before .before .before .before .before .before .before .before .before .before .before .loop .inv) (amount (c .before .before .before .before .before .before .before .before))
 
 loop-again : tie.Need-loop-again Inv-loop μ-loop
-loop-again c = round-again (c .before .before .before .before .before .before .before .before .before .before .before .before .before .before .before .before .before .explore .ensures) (c .before .before .before .before .before .before .before .before .before .before .before .before .before .before .before .answer .given .1) (c .before .before .before .before .before .before .before .before .before .before .before .before .before .before .before .before .before .before .before .loop .inv) (c .before .before .before .before .before .before .before .before .before .before .trace .ensures) (amount (c .before .before .before .before .before .before .before .before)) (c .before .role .ensures) (c .role2 .ensures) (search needs) (search needs) (c .before .before .before .before .shift .ensures)
+loop-again c = round-again (c .before .before .before .before .before .before .before .before .before .before .before .before .before .before .before .explore .ensures) (c .before .before .before .before .before .before .before .before .before .before .before .before .before .answer .given .1) (c .before .before .before .before .before .before .before .before .before .before .before .before .before .before .before .before .before .loop .inv) (amount (c .before .before .before .before .before .before .before .before)) (c .before .role .ensures) (c .role2 .ensures) (search needs) (search needs) (c .before .before .before .before .shift .ensures)
 
 outcome-requires-2 : tie.Need-outcome-requires-2 Inv-loop μ-loop
 outcome-requires-2 c κs = tt
@@ -155,8 +149,6 @@ reroute-spec =
     enum-told
     outcome-requires
     returns
-    slice-aggregate-trace
-    trace-requires
     mul-s
     array-read-s
     mul-t

@@ -6,10 +6,10 @@ use Rattle.search.proofs.link.Statement.{statement}
 use Rattle.search.proofs.link.Tie as tie
 
 abbrev Inv-loop : tie.InvT-loop
-Inv-loop buses branches first second head₀ after₀ k₀ head after k = Chained buses branches first second head after k
+Inv-loop buses branches first second head₀ after₀ far₀ k₀ head after far k = Chained buses branches first second head after far k
 
 abbrev μ-loop : tie.MeasureT-loop
-μ-loop buses branches first second head₀ after₀ k₀ head after k = k
+μ-loop buses branches first second head₀ after₀ far₀ k₀ head after far k = k
 
 loop-holds : tie.Need-loop-holds Inv-loop μ-loop
 loop-holds c = chained-none (c .pre)
@@ -77,6 +77,21 @@ mul-head-2 c = omega (arith, chain-second (c .before .loop .inv) (omega arith))
 array-write-head-2 : tie.Need-array-write-head-2 Inv-loop μ-loop
 array-write-head-2 c = omega (arith, chain-second (c .before .loop .inv) (omega arith))
 
+array-read-far : tie.Need-array-read-far Inv-loop μ-loop
+array-read-far c = omega arith
+
+array-write-far : tie.Need-array-write-far Inv-loop μ-loop
+array-write-far c = omega arith
+
+array-read-far-2 : tie.Need-array-read-far-2 Inv-loop μ-loop
+array-read-far-2 c = omega arith
+
+add-far : tie.Need-add-far Inv-loop μ-loop
+add-far c = omega arith
+
+array-write-far-2 : tie.Need-array-write-far-2 Inv-loop μ-loop
+array-write-far-2 c = omega arith
+
 loop-less : tie.Need-loop-less Inv-loop μ-loop
 loop-less c = omega arith
 
@@ -114,6 +129,11 @@ link-spec =
     cast-head-2
     mul-head-2
     array-write-head-2
+    array-read-far
+    array-write-far
+    array-read-far-2
+    add-far
+    array-write-far-2
     loop-less
     loop-again
     returns)

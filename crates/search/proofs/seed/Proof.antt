@@ -7,10 +7,10 @@ use Rattle.search.proofs.seed.Statement.{statement}
 use Rattle.search.proofs.seed.Tie as tie
 
 abbrev Inv-loop : tie.InvT-loop
-Inv-loop buses roles marks₀ queue₀ count₀ v₀ marks queue count v = Sow buses roles marks queue count v
+Inv-loop buses roles marks₀ queue₀ origin₀ count₀ v₀ marks queue origin count v = Sow buses roles marks queue origin count v
 
 abbrev μ-loop : tie.MeasureT-loop
-μ-loop buses roles marks₀ queue₀ count₀ v₀ marks queue count v = buses - v
+μ-loop buses roles marks₀ queue₀ origin₀ count₀ v₀ marks queue origin count v = buses - v
 
 loop-holds : tie.Need-loop-holds Inv-loop μ-loop
 loop-holds c = sow-none (c .pre)
@@ -30,6 +30,12 @@ cast-queue c = omega arith
 element-write-queue : tie.Need-element-write-queue Inv-loop μ-loop
 element-write-queue c = omega arith
 
+cast-origin : tie.Need-cast-origin Inv-loop μ-loop
+cast-origin c = omega arith
+
+element-write-origin : tie.Need-element-write-origin Inv-loop μ-loop
+element-write-origin c = omega arith
+
 add-count : tie.Need-add-count Inv-loop μ-loop
 add-count c = omega arith
 
@@ -42,8 +48,8 @@ loop-less c = omega arith
 loop-again : tie.Need-loop-again Inv-loop μ-loop
 loop-again c =
     ⊎-elim
-    (λ w. rw (w .1, w .2, w .3) (sow-mark (c .before .before .before .loop .inv) (c .before .before .loop-test .taken) (w .0 .taken)))
-    (λ w. rw (w .1, w .2, w .3) (sow-skip (c .before .before .before .loop .inv) (c .before .before .loop-test .taken) (w .0 .left)))
+    (λ w. rw (w .1, w .2, w .3, w .4) (sow-mark (c .before .before .before .loop .inv) (c .before .before .loop-test .taken) (w .0 .taken)))
+    (λ w. rw (w .1, w .2, w .3, w .4) (sow-skip (c .before .before .before .loop .inv) (c .before .before .loop-test .taken) (w .0 .left)))
     (c .if1 .came)
 
 returns : tie.Need-returns Inv-loop μ-loop
@@ -61,6 +67,8 @@ seed-spec =
     element-write-marks
     cast-queue
     element-write-queue
+    cast-origin
+    element-write-origin
     add-count
     add-v
     loop-less
