@@ -1,6 +1,6 @@
 -- Between queued buses, and between the branches of one, the laws of `Scan` carry the search; each way out is one law of `Answers`.
 use Prim.Native.Nat.{_-_, _<_}
-use mathlib.Core.Path.{_≡_, refl}
+use mathlib.Core.Path.{refl}
 use borrow.Author.Needs.{needs}
 use native.Mathlib.Omega.{arith}
 use mathlib.Core.Logic.{⊎-elim}
