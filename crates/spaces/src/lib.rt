@@ -4,7 +4,7 @@ ghost use Prim.Native.Nat.{_<_, _≤_};
 ghost use lib.ListN.{length};
 ghost use Rattle.rows.specs.Row.{nth};
 ghost use Rattle.spaces.specs.Stream.{fourAt, signedFrom};
-ghost use Rattle.spaces.specs.Spaces.{PlaceSet};
+ghost use Rattle.spaces.specs.Spaces.{Spoilt, BookSet, PlaceSet, PlacesSet};
 
 mod stream;
 
@@ -25,7 +25,9 @@ pub fn spoil(
     table: &mut [u8; 13312],
     injections: &mut [i32; 128],
     branches: &mut [u32; 1280],
-) {
+)
+    ensures { λ _. ⌜ Spoilt (now (book .exit)) (now (flow .exit)) (now (table .exit)) (now (injections .exit)) (now (branches .exit)) ⌝ }
+{
     *book = [170u8; 2100];
     *flow = [7777777i32; 256];
     *table = [170u8; 13312];
@@ -35,7 +37,7 @@ pub fn spoil(
 
 pub fn set_book(rest: &[u8], book: &mut [u8], bytes: usize) -> Next
     requires { ⌜ bytes ≤ length (now book) ⌝ }
-    ensures { λ r. ⌜ (r .taken ≤ length (now (rest .entry))) × (r .bytes ≤ length (now (book .entry))) ⌝ }
+    ensures { λ r. ⌜ BookSet (now (rest .entry)) (now (book .entry)) bytes (now (book .exit)) r ⌝ }
 {
     if rest.len() < 3 {
         return Next { taken: 0, bytes };
@@ -110,6 +112,7 @@ pub fn set_place(
     injections: &mut [i32],
     branches: &mut [u32],
 ) -> usize
+    ensures { λ r. ⌜ PlacesSet letter (now (rest .entry)) (now (flow .entry)) (now (table .entry)) (now (injections .entry)) (now (branches .entry)) (now (flow .exit)) (now (table .exit)) (now (injections .exit)) (now (branches .exit)) r ⌝ }
     ensures { λ r. ⌜ r ≤ length (now (rest .entry)) ⌝ }
 {
     if letter == b'F' {
