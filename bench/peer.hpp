@@ -24,13 +24,19 @@ template <class Engine> int load(Engine &engine, const Book &book) {
     return surplus;
 }
 
+// What the engine says of the loaded base; every loss is still to be judged.
+template <class Engine> Screened judged_base(Engine &engine, const Book &book, int surplus) {
+    Screened all;
+    all.base = judge(engine, surplus);
+    all.losses.resize(book.count());
+    return all;
+}
+
 // Every loss by a flow of the whole network without that branch.
 template <class Engine> Screened screen_afresh(const Book &book) {
     Engine engine(book);
-    Screened all;
     int surplus = load(engine, book);
-    all.base = judge(engine, surplus);
-    all.losses.resize(book.count());
+    Screened all = judged_base(engine, book, surplus);
     if (all.base.shortage > 0) return all;
     for (int k = 0; k < book.count(); ++k) {
         if (!book.branches[k].served) continue;
@@ -44,10 +50,8 @@ template <class Engine> Screened screen_afresh(const Book &book) {
 // Every loss by a flow between the ends of that branch alone, over what the base flow leaves of the other branches.
 template <class Engine> Screened screen_from_base(const Book &book) {
     Engine engine(book);
-    Screened all;
     int surplus = load(engine, book);
-    all.base = judge(engine, surplus);
-    all.losses.resize(book.count());
+    Screened all = judged_base(engine, book, surplus);
     if (all.base.shortage > 0) return all;
     std::vector<int> flow = engine.flows();
     for (int bus = 0; bus < book.buses(); ++bus) {

@@ -7,7 +7,7 @@ ghost use Rattle.spaces.specs.Stream.{fourAt};
 ghost use Rattle.trial.specs.Calls.{Ordered, Sized};
 use crate::lines::answer_line;
 use crate::lines::branches_line;
-use crate::lines::dump;
+use crate::lines::hex_line;
 use crate::lines::signed_line;
 use rows::Answer;
 use rows::Outcome;
@@ -217,6 +217,27 @@ fn run_meters(rest: &[u8], injections: &mut [i32]) -> usize
     answer_line(b"meters", answer);
     signed_line(b"injections", injections);
     taken
+}
+
+fn record_line(table: &[u8], k: usize)
+    requires { ⌜ (length (now table) ≡ 13312) × (k < 256) ⌝ }
+{
+    let mut out = [0u8; 133];
+    let start = 52 * k;
+    let end = start + 52;
+    hex_line(&mut out, b"record", k, &table[start..end]);
+}
+
+// `D`: the book, the flow, and every record of the table.
+fn dump(book: &[u8], bytes: usize, flow: &[i32], table: &[u8])
+    requires { ⌜ (length (now book) ≡ 2100) × (length (now flow) ≤ 256) × (length (now table) ≡ 13312) ⌝ }
+{
+    let mut out = [0u8; 4227];
+    hex_line(&mut out, b"book", bytes, book);
+    signed_line(b"flow", flow);
+    for k in 0..256 {
+        record_line(table, k);
+    }
 }
 
 // `S`, `O`, `R`, `M` and `D`.

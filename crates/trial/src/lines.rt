@@ -1,7 +1,11 @@
 // The lines that the commands write: each is built whole, in bytes enough for its longest text and a newline, and written at once.
+// How long its text is comes back.
+ghost use mathlib.Core.List.{_++_};
 ghost use mathlib.Core.Path.{_≡_};
 ghost use Prim.Native.Nat.{_+_, _*_, _<_, _≤_};
 ghost use lib.ListN.{length};
+ghost use Rattle.line.specs.Text.{nextOf, numbersOf, signedsOf, hexesOf};
+ghost use Rattle.line.specs.AnswerText.{answerText};
 use line::put;
 use line::put_answer;
 use line::put_hexes;
@@ -12,60 +16,47 @@ use line::write_line;
 use rows::Answer;
 
 // A word and the answer: its number, the shortage, the group.
-pub fn answer_line(word: &[u8], answer: Answer)
+pub fn answer_line(word: &[u8], answer: Answer) -> usize
     requires { ⌜ length (now word) ≤ 10 ⌝ }
+    ensures { λ r. ⌜ r ≡ length (now (word .entry) ++ answerText answer) ⌝ }
 {
     let mut out = [0u8; 2762];
     let end = put_answer(&mut out, word, answer);
     write_line(&mut out, end);
+    end
 }
 
-pub fn signed_line(word: &[u8], numbers: &[i32])
+pub fn signed_line(word: &[u8], numbers: &[i32]) -> usize
     requires { ⌜ (length (now word) ≤ 10) × (length (now numbers) ≤ 256) ⌝ }
+    ensures { λ r. ⌜ r ≡ length (now (word .entry)) + length (signedsOf (now (numbers .entry))) ⌝ }
 {
     let mut out = [0u8; 5643];
     let after = put(&mut out, 0, word);
     let end = put_signeds(&mut out, after, numbers);
     write_line(&mut out, end);
+    end
 }
 
-pub fn branches_line(numbers: &[u32])
+pub fn branches_line(numbers: &[u32]) -> usize
     requires { ⌜ length (now numbers) ≤ 1280 ⌝ }
+    ensures { λ r. ⌜ r ≡ 8 + length (numbersOf (now (numbers .entry))) ⌝ }
 {
     let mut out = [0u8; 26889];
     let after = put(&mut out, 0, b"branches");
     let end = put_numbers(&mut out, after, numbers);
     write_line(&mut out, end);
+    end
 }
 
 // A word, a number, and bytes in hex.
-fn hex_line(out: &mut [u8], word: &[u8], number: usize, bytes: &[u8])
+pub fn hex_line(out: &mut [u8], word: &[u8], number: usize, bytes: &[u8]) -> usize
     requires { ⌜ length (now word) + 2 * length (now bytes) + 23 ≤ length (now out) ⌝ }
+    ensures { λ r. ⌜ r ≡ length (now (word .entry)) + length (nextOf number) + 1 + length (hexesOf (now (bytes .entry))) ⌝ }
 {
     let after_word = put(out, 0, word);
     let after_number = put_next(out, after_word, number as u64);
     let after = put(out, after_number, b" ");
     let end = put_hexes(out, after, bytes);
     write_line(out, end);
-}
-
-fn record_line(table: &[u8], k: usize)
-    requires { ⌜ (length (now table) ≡ 13312) × (k < 256) ⌝ }
-{
-    let mut out = [0u8; 133];
-    let start = 52 * k;
-    let end = start + 52;
-    hex_line(&mut out, b"record", k, &table[start..end]);
-}
-
-// `D`: the book, the flow, and every record of the table.
-pub fn dump(book: &[u8], bytes: usize, flow: &[i32], table: &[u8])
-    requires { ⌜ (length (now book) ≡ 2100) × (length (now flow) ≤ 256) × (length (now table) ≡ 13312) ⌝ }
-{
-    let mut out = [0u8; 4227];
-    hex_line(&mut out, b"book", bytes, book);
-    signed_line(b"flow", flow);
-    for k in 0..256 {
-        record_line(table, k);
-    }
+    end
 }

@@ -3,8 +3,8 @@ use native.Mathlib.Omega.{arith}
 use mathlib.Core.Path.{_≡_}
 use Prim.Native.Nat.{_-_, _≤_}
 use lib.ListN.{length}
-use Rattle.trial.proofs.lines.dump.Statement.{statement}
-use Rattle.trial.proofs.lines.dump.Tie as tie
+use Rattle.trial.proofs.calls.dump.Statement.{statement}
+use Rattle.trial.proofs.calls.dump.Tie as tie
 
 abbrev Inv-loop : tie.InvT-loop
 Inv-loop book bytes flow table k₀ k = (length table ≡ 13312) × (k ≤ 256)
