@@ -1,34 +1,57 @@
 //! The second opinion: document 01 in plain Rust, sharing nothing with the proved crates.
+//!
+//! A folder imports only from folders named above it here; `tests/folders.rs` holds that.
 
-pub mod answer;
-pub mod bits;
-pub mod book;
-pub mod cuts;
-pub mod damage;
-pub mod faults;
-pub mod fixed;
-pub mod groups;
-pub mod judge;
-pub mod list;
-pub mod make;
-pub mod make_tables;
-pub mod maxflow;
-pub mod meters;
-pub mod network;
-pub mod outage;
-pub mod plant;
-pub mod random;
-pub mod random_books;
-pub mod record;
-pub mod reference;
-pub mod reroutes;
-pub mod screen;
-pub mod selftest;
-pub mod shelf;
-pub mod sources;
-pub mod spaces;
-pub mod stored;
-pub mod stream;
-pub mod tally;
-pub mod text;
-pub mod trials;
+/// What document 01 defines: books, networks, verdicts, records, calls with their refusals, meters, the list.
+pub mod definitions {
+    pub mod answer;
+    pub mod bits;
+    pub mod book;
+    pub mod cuts;
+    pub mod groups;
+    pub mod list;
+    pub mod maxflow;
+    pub mod meters;
+    pub mod network;
+    pub mod outage;
+    pub mod record;
+    pub mod reroutes;
+    pub mod screen;
+}
+
+/// Books to try: those with a name, those of source document 001, random ones, and the text form of any.
+pub mod books {
+    pub mod plain;
+    pub mod random;
+    pub mod random_books;
+    pub mod shelf;
+    pub mod sources;
+    pub mod text;
+}
+
+/// What a trial is: its commands, the spaces that they work on, what is fixed of its output, and an output of our own.
+pub mod trial {
+    pub mod fixed;
+    pub mod reference;
+    pub mod spaces;
+    pub mod stream;
+}
+
+/// The making of trial streams: the stored one and the random ones.
+pub mod streams {
+    pub mod damage;
+    pub mod make;
+    pub mod make_tables;
+    pub mod stored;
+    pub mod under_way;
+}
+
+/// The judge of a trial's output, the faults planted to try it, and many trials in a row.
+pub mod judging {
+    pub mod faults;
+    pub mod judge;
+    pub mod plant;
+    pub mod selftest;
+    pub mod tally;
+    pub mod trials;
+}

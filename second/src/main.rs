@@ -1,6 +1,10 @@
 //! The commands of the second opinion.
 
-use second::{book, fixed, judge, list, make, reference, selftest, shelf, stored, text, trials};
+use second::books::{shelf, text};
+use second::definitions::{book, list};
+use second::judging::{judge, selftest, trials};
+use second::streams::{make, stored};
+use second::trial::{fixed, reference};
 use std::fs;
 use std::io::Write;
 use std::path::Path;

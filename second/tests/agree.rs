@@ -1,11 +1,11 @@
 //! Every group tried against the max-flow, on many random small books; reroutes against all whole flows.
 
-use second::book::{pack, rows, unpack, write};
-use second::network::Network;
-use second::random::Random;
-use second::random_books::{served, strained};
-use second::reroutes::{confined, exactly, Exactly};
-use second::{cuts, groups};
+use second::books::random::Random;
+use second::books::random_books::{counts, served, strained};
+use second::definitions::book::{pack, rows, unpack, write};
+use second::definitions::network::{Network, Verdict};
+use second::definitions::reroutes::{confined, exactly, Exactly};
+use second::definitions::{cuts, groups};
 
 #[test]
 fn both_methods_agree_on_small_books() {
@@ -28,9 +28,9 @@ fn both_methods_agree_on_small_books() {
             assert_eq!(verdict, cuts::verdict(&network, branch), "branch {branch} of {book:?}");
             assert_eq!(verdict, cuts::Cutter::new(&network).verdict_afresh(branch), "branch {branch} of {book:?}");
             match verdict {
-                second::network::Verdict::Carries => carries += 1,
-                second::network::Verdict::Short(_) => shorts += 1,
-                second::network::Verdict::Out => {}
+                Verdict::Carries => carries += 1,
+                Verdict::Short(_) => shorts += 1,
+                Verdict::Out => {}
             }
         }
     }
@@ -54,7 +54,7 @@ fn both_ways_to_cut_agree_on_large_books() {
 fn books_come_back_from_their_bytes() {
     let mut random = Random(2);
     for _ in 0..2000 {
-        let (buses, count) = second::random_books::counts(&mut random);
+        let (buses, count) = counts(&mut random);
         let book = strained(&mut random, buses, count);
         let bytes = pack(&book);
         assert_eq!(unpack(&bytes).as_ref(), Ok(&book));

@@ -1,6 +1,8 @@
 //! The stored books and expected lists are what this program makes today.
 
-use second::{book, list, shelf, stored, text};
+use second::books::{shelf, text};
+use second::definitions::{book, list};
+use second::streams::stored;
 use std::fs;
 use std::path::Path;
 

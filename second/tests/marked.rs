@@ -1,12 +1,13 @@
 //! Document 01's marked examples (a) to (l), its two books and its own numbers, by both methods.
 
-use second::answer::Answer;
-use second::book::{pack, unpack, Book};
-use second::meters::{advance, injections, Registers};
-use second::network::{limit_in_kw, Excess, Network, Verdict};
-use second::outage::{allowed, changed_book, own_result, Lent};
-use second::shelf::{plain, second_book, triangle, with_out};
-use second::{cuts, groups, list, screen};
+use second::books::plain::{plain, with_out};
+use second::books::shelf::{largest, second_book, triangle};
+use second::definitions::answer::Answer;
+use second::definitions::book::{length, pack, unpack, Book};
+use second::definitions::meters::{advance, injections, Registers};
+use second::definitions::network::{limit_in_kw, Excess, Network, Verdict};
+use second::definitions::outage::{allowed, changed_book, own_result, Lent};
+use second::definitions::{cuts, groups, list, record, screen};
 
 fn short(amount: i64, buses: &[usize]) -> Verdict {
     Verdict::Short(Excess { amount, group: buses.iter().fold(0, |group, bus| group | 1 << bus) })
@@ -31,8 +32,8 @@ fn the_triangle_has_the_papers_bytes() {
 
 #[test]
 fn the_largest_book_has_1460_bytes() {
-    assert_eq!(second::book::length(128, 256), 1460);
-    assert_eq!(pack(&second::shelf::largest()).len(), 1460);
+    assert_eq!(length(128, 256), 1460);
+    assert_eq!(pack(&largest()).len(), 1460);
 }
 
 #[test]
@@ -55,7 +56,7 @@ fn b_triangle_with_branch_0_out() {
     let network = allowed(&lent, 0).unwrap();
     let (after, left) = own_result(&network, &lent, 0);
     for (branch, verdict) in due.into_iter().enumerate().skip(1) {
-        assert_eq!(second::record::stretch(&left, branch), second::record::bytes(verdict, &[]));
+        assert_eq!(record::stretch(&left, branch), record::bytes(verdict, &[]));
     }
     assert_eq!(left[..52], [0; 52]);
     assert!(network.without(0).fits(&after));

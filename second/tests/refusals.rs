@@ -1,10 +1,11 @@
 //! Each refusal number, its order among the others, and what its row names.
 
-use second::book::{pack, rows, unpack, write, Book};
-use second::meters::{injections, Registers};
-use second::outage::{allowed, Lent};
-use second::shelf::{plain, triangle, with_out};
-use second::{bits, list, screen};
+use second::books::plain::{plain, with_out};
+use second::books::shelf::{largest, too_long, triangle};
+use second::definitions::book::{pack, rows, unpack, write, Book};
+use second::definitions::meters::{injections, Registers};
+use second::definitions::outage::{allowed, changed_book, Lent};
+use second::definitions::{bits, list, screen};
 
 fn with_bit(mut bytes: Vec<u8>, place: usize) -> Vec<u8> {
     bytes[place / 8] |= 1 << (7 - place % 8);
@@ -120,7 +121,7 @@ fn registers_refuse_13_to_16() {
 
 #[test]
 fn long_inputs_are_refused_as_their_bytes_require() {
-    let long = |start: &[u8]| list::list(&second::shelf::too_long(start));
+    let long = |start: &[u8]| list::list(&too_long(start));
     assert_eq!(long(&[0, 0, 0, 0]), "refused 2\n");
     assert_eq!(long(&[0x80, 0x80, 0x7D, 0x01]), "refused 3\n");
     assert_eq!(long(&[0x80, 0x80, 0x7D, 0x00]), "refused 1\n");
@@ -129,10 +130,10 @@ fn long_inputs_are_refused_as_their_bytes_require() {
 
 #[test]
 fn an_outage_clears_one_bit() {
-    let book: Book = second::shelf::largest();
+    let book: Book = largest();
     let bytes = pack(&book);
     for branch in [0, 1, 100, 255] {
-        let changed = second::outage::changed_book(&bytes, branch);
+        let changed = changed_book(&bytes, branch);
         assert_eq!(changed, pack(&with_out(book.clone(), branch)));
         let differing = (0..8 * bytes.len()).filter(|&place| bits::bit(&bytes, place) != bits::bit(&changed, place));
         assert_eq!(differing.count(), 1);

@@ -1,13 +1,14 @@
 //! The systems of source document 001, as far as their numbers can be read (SOURCES.md).
 
-use second::book::{pack, Book};
-use second::network::{Excess, Network, Verdict};
-use second::outage::{allowed, judge, own_result, shortlist, Lent};
-use second::record;
-use second::reroutes::{exactly, Exactly};
-use second::shelf::with_out;
-use second::sources::*;
-use second::{cuts, groups, screen};
+use second::books::plain::with_out;
+use second::books::random::Random;
+use second::books::sources::*;
+use second::definitions::book::{pack, Book};
+use second::definitions::network::{Excess, Network, Verdict};
+use second::definitions::outage::{allowed, judge, own_result, shortlist, Lent};
+use second::definitions::record;
+use second::definitions::reroutes::{exactly, Exactly};
+use second::definitions::{cuts, groups, screen};
 
 /// A verdict by both methods; the document's buses count from 1.
 fn verdict(book: &Book, branch: usize) -> Verdict {
@@ -78,7 +79,7 @@ fn five_bus_of_section_3_6_whatever_the_single_ratings() {
 fn ten_bus_loss_of_4_1_is_short_35_86_mw_for_every_split_of_the_sums() {
     let due = Verdict::Short(Excess { amount: 35_860, group: 1 << 3 | 1 << 4 | 1 << 5 | 1 << 9 });
     assert_eq!(verdict(&ten_bus(&TEN_SPLIT), TEN_1_4), due);
-    let mut random = second::random::Random(10);
+    let mut random = Random(10);
     let mut tried = 0;
     while tried < 200 {
         let give = [0, 1, 2].map(|_| random.between(0, 110_000));

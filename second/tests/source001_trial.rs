@@ -1,9 +1,10 @@
 //! What source document 001 says of its systems, read out of the stored output of `trial` (SOURCES.md says where each number stands).
 
-use second::book::{pack, Book};
-use second::record::SIZE;
-use second::shelf::with_out;
-use second::sources::*;
+use second::books::plain::with_out;
+use second::books::sources::*;
+use second::definitions::book::{pack, Book};
+use second::definitions::network::Verdict;
+use second::definitions::record::{self, SIZE};
 
 const OUTPUT: &str = "../crates/trial/stdout";
 
@@ -111,7 +112,7 @@ fn seven_bus_loss_of_2_1_moves_flow_on_the_documents_way_and_writes_its_shortlis
     // The document's six, and the branch taken out itself.
     let listed = [(1, 6), (3, 2), (3, 1), (3, 6), (4, 3), (4, 6), (2, 1)].map(|(one, other)| seven_branch(one, other));
     for branch in (0..12).filter(|branch| !listed.contains(branch)) {
-        let kept = second::record::bytes(second::network::Verdict::Carries, &seven_reroute(branch));
+        let kept = record::bytes(Verdict::Carries, &seven_reroute(branch));
         assert_eq!(after.records[branch], hex(&kept));
     }
     assert!(after.records[SEVEN_2_1].chars().all(|digit| digit == '0'));

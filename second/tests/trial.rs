@@ -1,13 +1,16 @@
 //! The trial stream: commands come back from their bytes, good outputs are taken, what is fixed is the same for all.
 
-use second::book::unpack;
-use second::cuts::{fitting_flow, Cutter};
-use second::judge::judge;
-use second::network::Network;
-use second::random::Random;
-use second::reference::{output, output_with, Done};
-use second::stream::{bytes, commands, Command};
-use second::{fixed, make, screen, selftest, stored};
+use second::books::random::Random;
+use second::definitions::book::unpack;
+use second::definitions::cuts::{fitting_flow, Cutter};
+use second::definitions::network::Network;
+use second::definitions::screen;
+use second::judging::judge::judge;
+use second::judging::selftest;
+use second::streams::{make, stored};
+use second::trial::fixed;
+use second::trial::reference::{output, output_with, Done};
+use second::trial::stream::{bytes, commands, Command};
 
 #[test]
 fn commands_come_back_from_their_bytes() {

@@ -10,7 +10,7 @@ use Rattle.rows.specs.Bit.{bitAt}
 use Rattle.rows.proofs.Sum.{side, below, equal, above}
 use Rattle.bits.specs.Field.{Bytes, field, put}
 use Rattle.bits.specs.Fields.{total, reads, puts, Fit, place, item, putItems}
-use Rattle.bits.proofs.Bits.{field-lt, field-same, length-put, bytes-put, put-before, put-after, field-put, put-field}
+use Rattle.bits.proofs.ReadAsPut.{field-lt, field-same, length-put, bytes-put, put-before, put-after, field-put, put-field}
 
 pub length-puts : (z : List ℕ) (at : ℕ) (ws vs : List ℕ) → length (puts z at ws vs) ≡ length z
 length-puts z at [] vs = refl

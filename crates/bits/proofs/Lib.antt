@@ -1,4 +1,4 @@
 pub mod Low
-pub mod Bits
+pub mod ReadAsPut
 pub mod Window
 pub mod Fields

@@ -8,7 +8,7 @@ use Rattle.rows.specs.Row.{nth}
 use Rattle.rows.specs.Bit.{bitAt}
 use Rattle.bits.specs.Field.{Bytes, field}
 use Rattle.bits.proofs.Low as one
-use Rattle.bits.proofs.Bits.{bit-low, field-lt, field-append}
+use Rattle.bits.proofs.ReadAsPut.{bit-low, field-lt, field-append}
 
 bit-of : (bs : List ℕ) (k j : ℕ) → j < 8 → bitAt bs (8 * k + j) ≡ one.low (nth bs k) (7 - j)
 bit-of bs k j h =

@@ -2,6 +2,7 @@
 ghost use mathlib.Core.Path.{_≡_};
 ghost use Prim.Native.Nat.{_+_, _<_, _≤_, _^_};
 ghost use Rattle.rows.specs.Row.{nth};
+ghost use Rattle.rows.specs.Bit.{has};
 ghost use Rattle.bits.specs.Field.{field, withBit, setBit, put};
 
 // Byte k, and 0 past the end.
@@ -53,4 +54,11 @@ pub fn put(out: &mut [u8], at: usize, width: usize, v: u32)
         set_bit(out, at + i, (x % 2) as u8);
         x = x / 2;
     }
+}
+
+// Whether bit k of a row of 256 is 1.
+pub fn is_set(row: [u8; 32], k: usize) -> bool
+    ensures { λ r. ⌜ r ≡ has row k ⌝ }
+{
+    field(&row, k, 1) == 1
 }

@@ -1,8 +1,7 @@
-pub mod Tests
-pub mod Tables
-pub mod Reading
-pub mod Branching
-pub mod CaseLaws
-pub mod Beside
-pub mod Plain
-pub mod Promises
+pub mod TestAnswers
+pub mod Filling
+pub mod ReadEnds
+pub mod BranchRowsFilled
+pub mod RowsHoldBook
+pub mod ReadOnce
+pub mod StatusSet

@@ -1,70 +1,31 @@
 -- What reading a packed book promises.
 use mathlib.Core.Path.{_≡_}
-use mathlib.Core.Bool.{false, _||_}
-use mathlib.Core.List.{List, _++_}
+use mathlib.Core.Bool.{_||_}
+use mathlib.Core.List.{List, [], _∷_, _++_}
 use Prim.Native.Nat.{ℕ, _*_}
-use lib.Dec.{ltb, eqb}
+use lib.Dec.{ltb}
 use lib.IntN.{ℤ}
-use lib.ListN.{length, getD, drop, replicate}
-use Rattle.rows.specs.declared.Outcome.{Outcome}
-use Rattle.rows.specs.declared.Outcome.the-variants.{Accepted}
-use Rattle.rows.specs.declared.Answer.{Answer}
-use Rattle.rows.specs.Answer.{bare, refuseIf, andThen}
-use Rattle.rows.specs.Row.{nth, upTo, headed}
-use Rattle.quantity.specs.Signed.{posPart, negPart}
-use Rattle.quantity.specs.Rating.{limitOf}
+use lib.ListN.{length, drop}
+use Rattle.answer.specs.declared.Outcome.{Outcome}
+use Rattle.answer.specs.declared.Outcome.the-variants.{Accepted}
+use Rattle.answer.specs.declared.Answer.{Answer}
+use Rattle.answer.specs.Answer.{numberOf, noGroup, Said, refuseIf, andThen, settled}
 use Rattle.bits.specs.Field.{Bytes}
-use Rattle.layout.specs.declared.Branch.{Branch}
-use Rattle.layout.specs.Book.{Book, buses, count, injection, branch}
-use Rattle.layout.specs.Layout.{busesIn, branchesIn, factorIn, branchAfter, injectionAt, bookOf, tableOf}
+use Rattle.layout.specs.Layout.{busesIn, branchesIn, bookOf, tableOf}
 use Rattle.layout.specs.Check.{checkOf}
-use Rattle.layout.specs.Lent.{settled}
-use Rattle.book.specs.declared.Head.{Head}
-use Rattle.book.specs.declared.BusRows.{BusRows}
-use Rattle.book.specs.declared.BranchRows.{BranchRows}
-use Rattle.book.specs.declared.CaseRows.{CaseRows}
-
--- The counts and the power factor.
-pub record HeadRead (bs : List ℕ) (h : Head) : Type 0 where
-  pub buses-are : h .buses ≡ busesIn bs
-  pub branches-are : h .branches ≡ branchesIn bs
-  pub factor-is : h .factor ≡ factorIn bs
-
--- l with four numbers a branch in its first places, of the branches f 0, f 1, .., f (n - 1), and as it was beyond.
-abbrev pub tabled : ℕ → (ℕ → Branch) → List ℕ → List ℕ
-tabled n f l = tableOf (upTo n f) ++ drop (4 * n) l
 
 -- Refusals of the reader: the book's, then 8 where a lent table is too short.
 unfoldable pub readCheck : List ℕ → ℕ → ℕ → Outcome
 readCheck bs i j = andThen (checkOf bs) (refuseIf (ltb i (busesIn bs) || ltb j (4 * branchesIn bs)) 8 Accepted)
 
+abbrev pub readNumbers : List ℕ
+readNumbers = 1 ∷ 2 ∷ 3 ∷ 4 ∷ 5 ∷ 6 ∷ 7 ∷ 8 ∷ []
+
 -- The answer to reading bs into two lent tables, and every number that the tables then hold.
 pub record BookRead (bs : List ℕ) (injections injections′ : List ℤ) (branches branches′ : List ℕ) (r : Answer) : Type 0 where
   pub bytes : Bytes bs
-  pub answer : r ≡ bare (readCheck bs (length injections) (length branches))
+  pub answer : Said r (numberOf (readCheck bs (length injections) (length branches))) 0 noGroup
   pub injections-left : injections′
       ≡ settled (readCheck bs (length injections) (length branches)) injections (bookOf bs .injections ++ drop (busesIn bs) injections)
   pub branches-left : branches′
       ≡ settled (readCheck bs (length injections) (length branches)) branches (tableOf (bookOf bs .branches) ++ drop (4 * branchesIn bs) branches)
-
--- Rows filled from the book's fields, and 0 beyond its counts.
-pub record GainsRead (bs : List ℕ) (n : ℕ) (r : BusRows) : Type 0 where
-  pub gain-row : r .gain ≡ headed n (λ k. posPart (injectionAt bs k)) (replicate 128 0)
-  pub load-row : r .load ≡ headed n (λ k. negPart (injectionAt bs k)) (replicate 128 0)
-
-pub record BranchesRead (bs : List ℕ) (h : Head) (r : BranchRows) : Type 0 where
-  pub first-row : r .first ≡ headed (h .branches) (λ k. branchAfter (h .buses) bs k .first) (replicate 256 0)
-  pub second-row : r .second ≡ headed (h .branches) (λ k. branchAfter (h .buses) bs k .second) (replicate 256 0)
-  pub served-row : r .served ≡ headed (h .branches) (λ k. eqb (branchAfter (h .buses) bs k .status) 1) (replicate 256 false)
-  pub limit-row : r .limit ≡ headed (h .branches) (λ k. limitOf (branchAfter (h .buses) bs k .kva) (h .factor)) (replicate 256 0)
-
--- The rows of a case hold a book's numbers at every place, and nothing past its counts.
-pub record RowsRead (b : Book) (r : CaseRows) : Type 0 where
-  pub buses-are : r .buses ≡ buses b
-  pub branches-are : r .branches ≡ count b
-  pub first-is : (k : ℕ) → nth (r .first) k ≡ branch b k .first
-  pub second-is : (k : ℕ) → nth (r .second) k ≡ branch b k .second
-  pub served-is : (k : ℕ) → getD (r .served) k false ≡ eqb (branch b k .status) 1
-  pub limit-is : (k : ℕ) → nth (r .limit) k ≡ limitOf (branch b k .kva) (b .factor)
-  pub gain-is : (k : ℕ) → nth (r .gain) k ≡ posPart (injection b k)
-  pub load-is : (k : ℕ) → nth (r .load) k ≡ negPart (injection b k)

@@ -1,8 +1,11 @@
 // The screen and the outage call under C's calling convention, for programs in other languages to link.
 // A slice is a pointer and a length; the answer comes back as its number, its shortage and its group.
-ghost use Rattle.callable.specs.Promise.{ScreenSays, TakeSays};
-use rows::number_of;
-use rows::shortage_of;
+ghost use Rattle.state.specs.Call.{lent};
+ghost use Rattle.screen.specs.Promise.{ScreenEnds};
+ghost use Rattle.outage.specs.Promise.{TakeEnds};
+ghost use Rattle.callable.specs.Promise.{SaidInParts};
+use answer::number_of;
+use answer::shortage_of;
 
 #[no_mangle]
 pub extern "C" fn callable_screen(
@@ -12,7 +15,7 @@ pub extern "C" fn callable_screen(
     shortage: &mut u32,
     group: &mut [u8; 16],
 ) -> u8
-    ensures { λ r. ⌜ ScreenSays (now (book .entry)) (now (flow .entry)) (now (table .entry)) (now (flow .exit)) (now (table .exit)) r (now (shortage .exit)) (now (group .exit)) ⌝ }
+    ensures { λ r. ⌜ SaidInParts (ScreenEnds (lent (now (book .entry)) (now (flow .entry)) (now (table .entry))) (lent (now (book .entry)) (now (flow .exit)) (now (table .exit)))) r (now (shortage .exit)) (now (group .exit)) ⌝ }
 {
     let answer = screen::screen(book, flow, table);
     let outcome = answer.outcome;
@@ -31,7 +34,7 @@ pub extern "C" fn callable_take_out(
     shortage: &mut u32,
     group: &mut [u8; 16],
 ) -> u8
-    ensures { λ r. ⌜ TakeSays (now (book .entry)) (now (flow .entry)) (now (table .entry)) branch (now (book .exit)) (now (flow .exit)) (now (table .exit)) r (now (shortage .exit)) (now (group .exit)) ⌝ }
+    ensures { λ r. ⌜ SaidInParts (TakeEnds branch (lent (now (book .entry)) (now (flow .entry)) (now (table .entry))) (lent (now (book .exit)) (now (flow .exit)) (now (table .exit)))) r (now (shortage .exit)) (now (group .exit)) ⌝ }
 {
     let answer = outage::take_out(book, flow, table, branch);
     let outcome = answer.outcome;

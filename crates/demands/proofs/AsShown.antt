@@ -1,6 +1,6 @@
 -- In a run a call on a branch in service does what the table shows: accepted exactly if the branch is shown as carrying, and refused with 12
 -- exactly if it is shown as short, with the shortage and the group shown.
-use mathlib.Core.Path.{_≡_, refl, sym, _∙_}
+use mathlib.Core.Path.{_≡_, sym, _∙_}
 use mathlib.Core.Bool.{true, true≢false}
 use mathlib.Core.List.{List}
 use mathlib.Core.Logic.{_↔_}
@@ -10,24 +10,25 @@ use lib.IntN.{ℤ}
 use lib.ListN.{length, take, drop, length-take, length-drop}
 use lib.Seq.{getD-take, getD-drop}
 use Rattle.rows.specs.Bit.{has}
-use Rattle.rows.specs.Answer.{accepted, overloaded}
-use Rattle.rows.specs.declared.Answer.{Answer}
+use Rattle.answer.specs.Answer.{accepted, overloaded}
+use Rattle.answer.specs.declared.Answer.{Answer}
+use Rattle.answer.proofs.Said.{said-overloaded}
 use Rattle.bits.specs.Field.{Bytes}
-use Rattle.layout.specs.Layout.{branchesIn, bookOf}
+use Rattle.layout.specs.Layout.{branchesIn}
 use Rattle.verdict.specs.Case.{Case, Posed, out, on}
 use Rattle.verdict.specs.Excess.{NoExcess}
-use Rattle.verdict.specs.Record.{recordAt, verdictOf, shortageOf, groupOf, Told, opened, carrying, lacking, TrueRecord}
-use Rattle.verdict.proofs.Fitting.{none-above}
+use Rattle.verdict.specs.Record.{recordAt, verdictIn, shortageIn, groupIn, Told, is-out, carries, short, TrueRecord}
+use Rattle.verdict.specs.Update.{Lent}
+use Rattle.verdict.proofs.Fitting.{fits-none}
 use Rattle.verdict.proofs.Loss.{Level, short-overload, carries-spare, never-overload}
-use Rattle.screen.specs.Case.{caseOf}
-use Rattle.screen.specs.Promise.{Overloaded}
-use Rattle.screen.proofs.Judging.{group-bytes}
-use Rattle.outage.specs.Promise.{TakeEnds, refuses, unfit, overloads, accepts}
+use Rattle.state.specs.Case.{caseIn}
+use Rattle.state.specs.Call.{OverloadSaid, refuses, unfit, overloads, accepts}
+use Rattle.state.proofs.TrueRecords.{group-bytes}
+use Rattle.state.proofs.Status.{branches-of, level-of}
+use Rattle.outage.specs.Promise.{TakeEnds}
 use Rattle.demands.specs.Run.{Run}
-use Rattle.demands.proofs.Ends.{number-of, never-accepted}
+use Rattle.demands.proofs.Ends.{number-of, never-accepted, is-accepted}
 use Rattle.demands.proofs.Unique.{overloaded-same, fits-not-over}
-use Rattle.outage.proofs.Clearing.{branches-of}
-use Rattle.demands.proofs.Calls.{level-of}
 use Rattle.demands.proofs.Demand3.{run-true, run-posed, run-fits, call-checked, posed-out}
 
 -- The group bytes of a record.
@@ -43,56 +44,59 @@ module _ (rec : List ℕ) (long : length rec ≡ 52) (bytes : Bytes rec) where
 
 -- What a true record of a branch in service says of the case without it.
 data Without (C : Case) (b : ℕ) (rec : List ℕ) : Type 0 where
-  spared : verdictOf rec ≡ 1 → NoExcess (out C b) → Without C b rec
-  missed : verdictOf rec ≡ 2 → Overloaded (out C b) (overloaded (shortageOf rec) (shownGroup rec)) → Without C b rec
+  spared : verdictIn rec ≡ 1 → NoExcess (out C b) → Without C b rec
+  missed : verdictIn rec ≡ 2 → OverloadSaid (out C b) (overloaded (shortageIn rec) (shownGroup rec)) → Without C b rec
 
 without : (C : Case) (f : ℕ → ℤ) (b : ℕ) (rec : List ℕ) → Posed C → NoExcess C → Level C → C .served b ≡ true → TrueRecord C f b rec → Without C b rec
 without C f b rec p h l i t = go (t .told)
   where
     go : Told C f b rec → Without C b rec
-    go (opened o v z) = absurd (true≢false (sym i ∙ o))
-    go (carrying o c v z m) = spared v (carries-spare C b p h l .0 c)
-    go (lacking o s v z m) = missed v (record {
-      shortage = shortageOf rec;
+    go (is-out o v z) = absurd (true≢false (sym i ∙ o))
+    go (carries o c v z m) = spared v (carries-spare C b p h l .0 c)
+    go (short o s v z) = missed v (record {
+      shortage = shortageIn rec;
       group = shownGroup rec;
-      answer = refl;
+      answer = said-overloaded (shortageIn rec) (shownGroup rec);
       long = long-shown rec (t .long) (t .bytes);
       bytes = bytes-shown rec (t .long) (t .bytes);
-      overload = short-overload C b (shortageOf rec) (groupOf rec) p h l z .0 s;
+      overload = short-overload C b (shortageIn rec) (groupIn rec) p h l .0 s;
     })
 
-module _ {bs : List ℕ} {flow : List ℤ} {table : List ℕ} (run : Run bs flow table) {bs′ : List ℕ} {flow′ : List ℤ} {table′ : List ℕ} {b : ℕ} {r : Answer}
-    (e : TakeEnds bs flow table b bs′ flow′ table′ r) (there : b < branchesIn bs) (in-service : caseOf (bookOf bs) .served b ≡ true) where
-  says : Without (caseOf (bookOf bs)) b (recordAt table b)
+module _ {now : Lent} (run : Run now) {after : Lent} {b : ℕ} {r : Answer} (e : TakeEnds b now after r) (there : b < branchesIn (now .book))
+    (in-service : caseIn (now .book) .served b ≡ true) where
+  abbrev rec : List ℕ
+  rec = recordAt (now .table) b
+
+  says : Without (caseIn (now .book)) b rec
   says =
-      let C = caseOf (bookOf bs) in
-      without C (on flow) b (recordAt table b) (run-posed run) (none-above C (C .limit) (on flow) (run-posed run) (run-fits run)) (level-of (bookOf bs)) in-service
-      (run-true run .each b (omega (arith, branches-of bs)))
+      let C = caseIn (now .book) in
+      without C (on (now .flow)) b rec (run-posed run) (fits-none C (on (now .flow)) (run-posed run) (run-fits run)) (level-of (now .book)) in-service
+      (run-true run .each b (omega (arith, branches-of (now .book))))
 
   -- Which of the two it is.
   data Which : Type 0 where
-    carried : verdictOf (recordAt table b) ≡ 1 → r ≡ accepted → Which
-    lacked : verdictOf (recordAt table b) ≡ 2 → r ≡ overloaded (shortageOf (recordAt table b)) (shownGroup (recordAt table b)) → Which
+    was-carrying : verdictIn rec ≡ 1 → r ≡ accepted → Which
+    was-short : verdictIn rec ≡ 2 → r ≡ overloaded (shortageIn rec) (shownGroup rec) → Which
 
   which : Which
   which = go says e
     where
-      go : Without (caseOf (bookOf bs)) b (recordAt table b) → TakeEnds bs flow table b bs′ flow′ table′ r → Which
+      go : Without (caseIn (now .book)) b rec → TakeEnds b now after r → Which
       go w (refuses n a k) = absurd (n (call-checked run e there in-service))
       go w (unfit c n a k) = absurd (n (run-fits run))
-      go (spared v h) (overloads c f o k) = absurd (never-overload (out (caseOf (bookOf bs)) b) (o .shortage) (has (o .group)) h (o .overload))
-      go (spared v h) (accepts c f a o) = carried v a
-      go (missed v x) (overloads c f o k) = lacked v (overloaded-same (out (caseOf (bookOf bs)) b) r _ o x)
-      go (missed v x) (accepts c f a o) = absurd (fits-not-over (out (caseOf (bookOf bs)) b) (on flow′) _ (posed-out run e there in-service) (o .updated .fits) x)
+      go (spared v h) (overloads c f o k) = absurd (never-overload (out (caseIn (now .book)) b) (o .shortage) (has (o .group)) h (o .overload))
+      go (spared v h) (accepts c f a o) = was-carrying v (is-accepted a)
+      go (missed v x) (overloads c f o k) = was-short v (overloaded-same (out (caseIn (now .book)) b) r _ o x)
+      go (missed v x) (accepts c f a o) = absurd (fits-not-over (out (caseIn (now .book)) b) (on (after .flow)) _ (posed-out run e there in-service) (o .updated .fits) x)
 
-  pub accepted-as-shown : (r ≡ accepted) ↔ (verdictOf (recordAt table b) ≡ 1)
+  pub accepted-as-shown : (r ≡ accepted) ↔ (verdictIn rec ≡ 1)
   accepted-as-shown = elim which [
-    | carried v a ↦ (λ q. v, λ q. a)
-    | lacked v o ↦ (λ q. absurd (never-accepted (number-of o) q), λ q. absurd (omega arith))
+    | was-carrying v a ↦ (λ q. v, λ q. a)
+    | was-short v o ↦ (λ q. absurd (never-accepted (number-of o) (λ z. omega arith) q), λ q. absurd (omega arith))
   ]
 
-  pub refused-as-shown : (r ≡ overloaded (shortageOf (recordAt table b)) (take 16 (drop 4 (recordAt table b)))) ↔ (verdictOf (recordAt table b) ≡ 2)
+  pub refused-as-shown : (r ≡ overloaded (shortageIn rec) (take 16 (drop 4 rec))) ↔ (verdictIn rec ≡ 2)
   refused-as-shown = elim which [
-    | carried v a ↦ (λ q. absurd (never-accepted (number-of q) a), λ q. absurd (omega arith))
-    | lacked v o ↦ (λ q. v, λ q. o)
+    | was-carrying v a ↦ (λ q. absurd (never-accepted (number-of q) (λ z. omega arith) a), λ q. absurd (omega arith))
+    | was-short v o ↦ (λ q. v, λ q. o)
   ]

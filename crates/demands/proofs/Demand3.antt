@@ -8,36 +8,45 @@ use native.Mathlib.Omega.{arith}
 use lib.IntN.{ℤ, _-ℤ_}
 use lib.ListN.{length}
 use Rattle.rows.specs.Row.{nth}
-use Rattle.rows.specs.Answer.{numberOf, accepted}
-use Rattle.rows.specs.declared.Outcome.the-variants.{Accepted}
-use Rattle.rows.specs.declared.Answer.{Answer}
+use Rattle.answer.specs.Answer.{numberOf, accepted}
+use Rattle.answer.specs.declared.Outcome.the-variants.{Accepted}
+use Rattle.answer.specs.declared.Answer.{Answer}
+use Rattle.answer.proofs.Said.{said-same}
 use Rattle.bits.specs.Field.{setBit}
-use Rattle.layout.specs.Layout.{busesIn, branchesIn, statusBit, bookOf}
+use Rattle.layout.specs.Layout.{busesIn, branchesIn, statusBit}
 use Rattle.layout.specs.Check.{checkOf}
 use Rattle.verdict.specs.Case.{Case, Posed, out, on, leaving, arriving, Fits}
-use Rattle.verdict.specs.Record.{recordAt, verdictOf, Told, opened, carrying, lacking, Rerouted, TrueTable}
-use Rattle.verdict.specs.Update.{Shortlisted}
-use Rattle.verdict.proofs.Fitting.{posed-status, fits-more}
+use Rattle.verdict.specs.Record.{recordAt, verdictIn, Told, is-out, carries, short, Rerouted, TrueTable}
+use Rattle.verdict.specs.Update.{Lent, Shortlisted}
+use Rattle.verdict.proofs.Fitting.{posed-status}
 use Rattle.verdict.proofs.Loss.{Level}
 use Rattle.verdict.proofs.Keep.{stable}
-use Rattle.verdict.proofs.Unique.{tables-agree}
-use Rattle.screen.specs.Case.{caseOf}
-use Rattle.screen.specs.Promise.{screenCheck, Overloaded, ScreenEnds, refuses, overloads, accepts}
-use Rattle.outage.specs.Promise as outage
-use Rattle.outage.specs.Promise.{Touched, Confined, takeCheck, TakeEnds, unfit}
+use Rattle.verdict.proofs.VerdictByCase.{tables-agree}
+use Rattle.state.specs.Case.{caseIn}
+use Rattle.state.specs.Call as call
+use Rattle.state.specs.Call.{OverloadSaid}
+use Rattle.state.proofs.Checked.{passing, posed-book}
+use Rattle.state.proofs.Status.{branches-of, level-of, restates}
+use Rattle.screen.specs.Promise.{screenCheck, ScreenEnds, refuses, overloads, accepts}
+use Rattle.outage.specs.Promise.{Touched, Confined, takeCheck, TakeEnds}
+use Rattle.outage.proofs.Checking.{taking}
 use Rattle.demands.specs.Run.{Run, screened, taken}
-use Rattle.demands.proofs.Ends.{passing, done, number-of, posed-book}
+use Rattle.demands.proofs.Ends.{done, number-of, take-done, is-accepted}
 use Rattle.demands.proofs.Unique.{overloaded-same, fits-not-over}
-use Rattle.outage.proofs.Clearing.{branches-of, cleared}
-use Rattle.demands.proofs.Calls.{level-of, taking, take-done, call-true}
+use Rattle.demands.proofs.Calls.{call-true}
 
 -- ---- What stands after a run: an accepted book, and a table true of its case and of the flow.
-pub record Stands (bs : List ℕ) (flow : List ℤ) (table : List ℕ) : Type 0 where
-  pub book : checkOf bs ≡ Accepted
-  pub table-true : TrueTable (caseOf (bookOf bs)) flow table
+pub record Stands (l : Lent) : Type 0 where
+  pub book : checkOf (l .book) ≡ Accepted
+  pub table-true : TrueTable (caseIn (l .book)) (l .flow) (l .table)
 
-pub run-stands : {bs : List ℕ} {flow : List ℤ} {table : List ℕ} → Run bs flow table → Stands bs flow table
-run-stands (screened e a) = let d = done e a in record { book = d .passes .book; table-true = d .screened .table-true }
+pub run-stands : {l : Lent} → Run l → Stands l
+run-stands (screened {before} {after} e a) =
+    let d = done e a in
+    record {
+      book = rw (d .screened .book-kept) (d .passes .book);
+      table-true = rw (d .screened .book-kept) (d .screened .table-true);
+    }
 run-stands (taken b run e a) =
     let d = take-done e a in
     record {
@@ -46,100 +55,113 @@ run-stands (taken b run e a) =
     }
 
 -- ---- The reroute that a carrying branch's record promises.
-carried-by : (C : Case) (f : ℕ → ℤ) (b : ℕ) (rec : List ℕ) → Told C f b rec → verdictOf rec ≡ 1 → Rerouted C f b rec
-carried-by C f b rec (opened i v z) e = absurd (omega arith)
-carried-by C f b rec (carrying i c v z m) e = m
-carried-by C f b rec (lacking i s v z m) e = absurd (omega arith)
+carried-by : (C : Case) (f : ℕ → ℤ) (b : ℕ) (rec : List ℕ) → Told C f b rec → verdictIn rec ≡ 1 → Rerouted C f b rec
+carried-by C f b rec (is-out i v z) e = absurd (omega arith)
+carried-by C f b rec (carries i c v z m) e = m
+carried-by C f b rec (short i s v z) e = absurd (omega arith)
 
 fits-level : (C : Case) (b : ℕ) (h : ℕ → ℤ) → Level C → Fits (out C b) (C .loss-limit) h → Fits (out C b) (C .limit) h
-fits-level C b h l w = fits-more (out C b) (C .loss-limit) (C .limit) h (λ k u. omega (arith, l k)) w
+fits-level C b h l w = subst (λ (m : ℕ → ℕ). Fits (out C b) m h) l w
 
 within-reroute : (C : Case) (f : ℕ → ℤ) (b : ℕ) (rec : List ℕ) (m : Rerouted C f b rec) → Confined C f rec b (m .flow)
 within-reroute C f b rec m j u n q = stable (m .flow j) (f j) (λ d. true≢false (sym (m .exactly j u .1 (n, d)) ∙ q))
 
-module _ {bs : List ℕ} {flow : List ℤ} {table : List ℕ} (run : Run bs flow table) where
-  pub run-true : TrueTable (caseOf (bookOf bs)) flow table
+module _ {now : Lent} (run : Run now) where
+  abbrev C : Case
+  C = caseIn (now .book)
+
+  pub run-true : TrueTable C (now .flow) (now .table)
   run-true = run-stands run .table-true
 
-  pub run-posed : Posed (caseOf (bookOf bs))
-  run-posed = posed-book bs (run-stands run .book)
+  pub run-posed : Posed C
+  run-posed = posed-book (now .book) (run-stands run .book)
 
   -- Power balances at every bus, and every branch keeps to its limit.
-  pub run-fits : Fits (caseOf (bookOf bs)) (caseOf (bookOf bs) .limit) (on flow)
+  pub run-fits : Fits C (C .limit) (on (now .flow))
   run-fits = run-true .fits
 
-  pub run-balances : (i : ℕ) → i < caseOf (bookOf bs) .buses → leaving (caseOf (bookOf bs)) (on flow) i -ℤ arriving (caseOf (bookOf bs)) (on flow) i ≡ caseOf (bookOf bs) .injection i
+  pub run-balances : (i : ℕ) → i < C .buses → leaving C (on (now .flow)) i -ℤ arriving C (on (now .flow)) i ≡ C .injection i
   run-balances = run-fits .bus
 
   -- ---- Every verdict, shortage and group equals that of any fresh screen of the book as it then stands.
-  module _ {flow₀ flow₁ : List ℤ} {table₀ table₁ : List ℕ} {r : Answer} (e : ScreenEnds bs flow₀ table₀ flow₁ table₁ r) where
+  module _ {before after : Lent} {r : Answer} (same-book : before .book ≡ now .book) (e : ScreenEnds before after r) where
     -- a fresh screen that is lent enough isn't refused
-    pub run-screens : branchesIn bs ≤ length flow₀ → 52 * branchesIn bs ≤ length table₀ → r ≡ accepted
+    pub run-screens : branchesIn (now .book) ≤ length (before .flow) → 52 * branchesIn (now .book) ≤ length (before .table) → r ≡ accepted
     run-screens l m = go e
       where
-        go : ScreenEnds bs flow₀ table₀ flow₁ table₁ r → r ≡ accepted
-        go (refuses n a k) = absurd (n (passing bs (length flow₀) (length table₀) (record { book = run-stands run .book; flow-room = l; table-room = m })))
-        go (overloads c o k) = absurd (fits-not-over (caseOf (bookOf bs)) (on flow) r run-posed run-fits o)
-        go (accepts c a s) = a
+        go : ScreenEnds before after r → r ≡ accepted
+        go (refuses n a k) = absurd (n (passing _ _ _ (record { book = rw same-book (run-stands run .book); flow-room = rw same-book l; table-room = rw same-book m })))
+        go (overloads c o k) = absurd (fits-not-over C (on (now .flow)) r run-posed run-fits (subst (λ (bs : List ℕ). OverloadSaid (caseIn bs) r) same-book o))
+        go (accepts c a s) = is-accepted a
 
-    pub run-fresh : r ≡ accepted → (k : ℕ) → k < caseOf (bookOf bs) .branches → (j : ℕ) → j < 20 → nth (recordAt table k) j ≡ nth (recordAt table₁ k) j
-    run-fresh a = tables-agree (caseOf (bookOf bs)) flow flow₁ table table₁ run-true (done e a .screened .table-true)
+    pub run-fresh : r ≡ accepted → (k : ℕ) → k < C .branches → (j : ℕ) → j < 20 → nth (recordAt (now .table) k) j ≡ nth (recordAt (after .table) k) j
+    run-fresh a =
+        tables-agree C (now .flow) (after .flow) (now .table) (after .table) run-true
+        (subst (λ (bs : List ℕ). TrueTable (caseIn bs) (after .flow) (after .table)) same-book (done e a .screened .table-true))
 
   -- ---- A call in the run.
-  module _ {bs′ : List ℕ} {flow′ : List ℤ} {table′ : List ℕ} {b : ℕ} {r : Answer} (e : TakeEnds bs flow table b bs′ flow′ table′ r) where
-    pub call-joins : r ≡ accepted → Run bs′ flow′ table′
+  module _ {after : Lent} {b : ℕ} {r : Answer} (e : TakeEnds b now after r) where
+    pub call-joins : r ≡ accepted → Run after
     call-joins a = taken b run e a
 
     -- Only shortlisted records were rewritten.
-    pub call-rewrites : r ≡ accepted → (k : ℕ) → k < caseOf (bookOf bs) .branches → (Shortlisted (out (caseOf (bookOf bs)) b) table (Touched (on flow) (on flow′) b) k → ⊥)
-        → recordAt table′ k ≡ recordAt table k
+    pub call-rewrites : r ≡ accepted → (k : ℕ) → k < C .branches → (Shortlisted (out C b) (now .table) (Touched (on (now .flow)) (on (after .flow)) b) k → ⊥)
+        → recordAt (after .table) k ≡ recordAt (now .table) k
     call-rewrites a = take-done e a .took .updated .kept
 
     -- Where the branch was shown as carrying, flow changed only on it and on branches that its recorded reroute names.
-    pub call-confined : r ≡ accepted → verdictOf (recordAt table b) ≡ 1 → Confined (caseOf (bookOf bs)) (on flow) (recordAt table b) b (on flow′)
+    pub call-confined : r ≡ accepted → verdictIn (recordAt (now .table) b) ≡ 1 → Confined C (on (now .flow)) (recordAt (now .table) b) b (on (after .flow))
     call-confined a v =
         let d = take-done e a in
-        let m = carried-by (caseOf (bookOf bs)) (on flow) b (recordAt table b) (run-true .each b (omega (arith, branches-of bs, d .passes .there)) .told) v in
-        d .took .confined (m .flow) (fits-level (caseOf (bookOf bs)) b (m .flow) (level-of (bookOf bs)) (m .fits)) (within-reroute (caseOf (bookOf bs)) (on flow) b (recordAt table b) m)
+        let m = carried-by C (on (now .flow)) b (recordAt (now .table) b) (run-true .each b (omega (arith, branches-of (now .book), d .passes .there)) .told) v in
+        d .took .confined (m .flow) (fits-level C b (m .flow) (level-of (now .book)) (m .fits)) (within-reroute C (on (now .flow)) b (recordAt (now .table) b) m)
 
     -- ---- A call on a branch in service answers as the fresh screen of the book without that branch, with the same shortage and group.
-    module _ (there : b < branchesIn bs) (in-service : caseOf (bookOf bs) .served b ≡ true) where
-      pub call-checked : takeCheck bs (length flow) (length table) b ≡ Accepted
-      call-checked = taking bs (length flow) (length table) b (record {
-        book = run-stands run .book;
-        flow-room = omega (arith, branches-of bs, run-true .room);
-        table-room = omega (arith, branches-of bs, run-true .long);
+    module _ (there : b < branchesIn (now .book)) (in-service : C .served b ≡ true) where
+      pub call-checked : takeCheck (now .book) (length (now .flow)) (length (now .table)) b ≡ Accepted
+      call-checked = taking _ _ _ b (record {
+        passes = record {
+          book = run-stands run .book;
+          flow-room = omega (arith, branches-of (now .book), run-true .room);
+          table-room = omega (arith, branches-of (now .book), run-true .long);
+        };
         there = there;
         in-service = in-service;
       })
 
-      pub posed-out : Posed (out (caseOf (bookOf bs)) b)
-      posed-out = posed-status (caseOf (bookOf bs)) b false run-posed
+      pub posed-out : Posed (out C b)
+      posed-out = posed-status C b false run-posed
 
-      module _ {flow₀ flow₁ : List ℤ} {table₀ table₁ : List ℕ} {s : Answer} (f : ScreenEnds (setBit bs (statusBit (busesIn bs) b) 0) flow₀ table₀ flow₁ table₁ s)
-          (flow-room : branchesIn bs ≤ length flow₀) (table-room : 52 * branchesIn bs ≤ length table₀) where
-        screen-checked : screenCheck (setBit bs (statusBit (busesIn bs) b) 0) (length flow₀) (length table₀) ≡ Accepted
+      module _ {fresh left : Lent} {s : Answer} (without : fresh .book ≡ setBit (now .book) (statusBit (busesIn (now .book)) b) 0) (f : ScreenEnds fresh left s)
+          (flow-room : branchesIn (now .book) ≤ length (fresh .flow)) (table-room : 52 * branchesIn (now .book) ≤ length (fresh .table)) where
+        same-case : caseIn (fresh .book) ≡ out C b
+        same-case = rw without (restates (now .book) b 0 (run-stands run .book) there (omega arith) .case-is)
+
+        screen-checked : screenCheck fresh ≡ Accepted
         screen-checked =
-            let c = cleared bs b (run-stands run .book) there in
-            passing _ (length flow₀) (length table₀) (record { book = c .book; flow-room = omega (arith, c .count-is); table-room = omega (arith, c .count-is) })
-
-        same-case : caseOf (bookOf (setBit bs (statusBit (busesIn bs) b) 0)) ≡ out (caseOf (bookOf bs)) b
-        same-case = cleared bs b (run-stands run .book) there .case-is
+            let c = restates (now .book) b 0 (run-stands run .book) there (omega arith) in
+            passing _ _ _ (record {
+              book = rw without (c .book);
+              flow-room = rw without (omega (arith, c .count-is));
+              table-room = rw without (omega (arith, c .count-is));
+            })
 
         pub call-fresh : r ≡ s
         call-fresh = go e f
           where
-            go : TakeEnds bs flow table b bs′ flow′ table′ r → ScreenEnds (setBit bs (statusBit (busesIn bs) b) 0) flow₀ table₀ flow₁ table₁ s → r ≡ s
-            go (outage.refuses n a k) y = absurd (n call-checked)
-            go (unfit c n a k) y = absurd (n run-fits)
-            go (outage.overloads c h o k) (refuses n a k′) = absurd (n screen-checked)
-            go (outage.overloads c h o k) (overloads c′ o′ k′) = overloaded-same (out (caseOf (bookOf bs)) b) r s o (subst (λ (D : Case). Overloaded D s) same-case o′)
-            go (outage.overloads c h o k) (accepts c′ a x) =
-                absurd (fits-not-over (out (caseOf (bookOf bs)) b) (on flow₁) r posed-out (subst (λ (D : Case). Fits D (D .limit) (on flow₁)) same-case (x .table-true .fits)) o)
-            go (outage.accepts c h a o) (refuses n a′ k) = absurd (n screen-checked)
-            go (outage.accepts c h a o) (overloads c′ o′ k′) =
-                absurd (fits-not-over (out (caseOf (bookOf bs)) b) (on flow′) s posed-out (o .updated .fits) (subst (λ (D : Case). Overloaded D s) same-case o′))
-            go (outage.accepts c h a o) (accepts c′ a′ x) = a ∙ sym a′
+            over : OverloadSaid (caseIn (fresh .book)) s → OverloadSaid (out C b) s
+            over o = subst (λ (D : Case). OverloadSaid D s) same-case o
+
+            go : TakeEnds b now after r → ScreenEnds fresh left s → r ≡ s
+            go (call.refuses n a k) y = absurd (n call-checked)
+            go (call.unfit c n a k) y = absurd (n run-fits)
+            go (call.overloads c h o k) (refuses n a k′) = absurd (n screen-checked)
+            go (call.overloads c h o k) (overloads c′ o′ k′) = overloaded-same (out C b) r s o (over o′)
+            go (call.overloads c h o k) (accepts c′ a x) =
+                absurd (fits-not-over (out C b) (on (left .flow)) r posed-out (subst (λ (D : Case). Fits D (D .limit) (on (left .flow))) same-case (x .table-true .fits)) o)
+            go (call.accepts c h a o) (refuses n a′ k) = absurd (n screen-checked)
+            go (call.accepts c h a o) (overloads c′ o′ k′) = absurd (fits-not-over (out C b) (on (after .flow)) s posed-out (o .updated .fits) (over o′))
+            go (call.accepts c h a o) (accepts c′ a′ x) = said-same a a′
 
         pub call-refused : (numberOf (r .outcome) ≡ 12) ↔ (numberOf (s .outcome) ≡ 12)
         call-refused = (λ n. sym (number-of call-fresh) ∙ n, λ n. number-of call-fresh ∙ n)

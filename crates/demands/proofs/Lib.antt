@@ -1,7 +1,4 @@
-pub mod More
-pub mod Numbers
 pub mod Ends
-pub mod Record
 pub mod Demand1
 pub mod Demand2
 pub mod Unique
@@ -10,3 +7,4 @@ pub mod Demand3
 pub mod AsShown
 pub mod UniqueCalls
 pub mod Excluded
+pub mod RoundTrips

@@ -1,27 +1,30 @@
 -- Any two results that the promise of `screen` allows have the same answer and leave the same lent memory, but for the flow numbers below the count
 -- and bytes 20 to 51 of the records of carrying branches.
-use mathlib.Core.Path.{_≡_, sym, ap, _∙_}
+use mathlib.Core.Path.{_≡_, refl, sym, ap, _∙_, subst}
 use mathlib.Core.List.{List}
 use Prim.Native.Nat.{ℕ, _+_, _*_, _/_, _%_, _≤_, _<_}
 use native.Mathlib.Omega.{arith}
 use native.Mathlib.Decide.{ℕ-discrete, decLt}
 use lib.IntN.{ℤ}
-use lib.ListN.{length, drop}
+use lib.ListN.{drop}
 use lib.Seq.{getD-take, getD-drop}
 use Rattle.rows.specs.Row.{nth}
 use Rattle.rows.specs.Bit.{has}
-use Rattle.rows.specs.Answer.{accepted, overloaded}
-use Rattle.rows.specs.declared.Answer.{Answer}
-use Rattle.layout.specs.Layout.{bookOf}
+use Rattle.answer.specs.Answer.{Said, accepted}
+use Rattle.answer.specs.declared.Answer.{Answer}
 use Rattle.verdict.specs.Case.{Case, Posed, on, Fits}
-use Rattle.verdict.specs.Record.{recordAt, verdictOf, TrueTable, Beyond}
-use Rattle.verdict.proofs.Fitting.{none-above}
+use Rattle.verdict.specs.Record.{recordAt, verdictIn, TrueTable}
+use Rattle.verdict.specs.Update.{Lent, Beyond}
+use Rattle.verdict.proofs.Fitting.{fits-none}
 use Rattle.verdict.proofs.Loss.{never-overload}
-use Rattle.verdict.proofs.Unique.{same-names, overload-unique, first-twenty, whole-record}
-use Rattle.screen.specs.Case.{caseOf}
-use Rattle.screen.specs.Promise.{Overloaded, ScreenEnds, refuses, overloads, accepts}
+use Rattle.verdict.proofs.VerdictByCase.{same-names, largest-unique, first-twenty, whole-record}
+use Rattle.state.specs.Case.{caseIn}
+use Rattle.state.specs.Call.{OverloadSaid}
+use Rattle.state.proofs.Checked.{passed, posed-book}
+use Rattle.screen.specs.Promise.{ScreenEnds, refuses, overloads, accepts}
 use Rattle.demands.specs.Same.{Free, Alike, SameResult}
-use Rattle.demands.proofs.Ends.{passed, posed-book}
+use Rattle.answer.proofs.Said.{said-same}
+use Rattle.demands.proofs.Ends.{is-accepted}
 
 -- ---- Tables.
 pub byte-of : (table : List ℕ) (k m : ℕ) → m < 52 → nth (recordAt table k) m ≡ nth table (52 * k + m)
@@ -38,13 +41,13 @@ tables-same C t u each beyond j n = go (decLt j (52 * C .branches))
     at : nth (recordAt t (j / 52)) (j % 52) ≡ nth (recordAt u (j / 52)) (j % 52) → nth t j ≡ nth u j
     at e = ap (nth t) is ∙ sym (byte-of t (j / 52) (j % 52) (omega arith)) ∙ e ∙ byte-of u (j / 52) (j % 52) (omega arith) ∙ ap (nth u) (sym is)
 
-    late : j / 52 < C .branches → 20 ≤ j % 52 → Alike (recordAt t (j / 52)) (recordAt u (j / 52)) → Dec (verdictOf (recordAt t (j / 52)) ≡ 1) → nth t j ≡ nth u j
+    late : j / 52 < C .branches → 20 ≤ j % 52 → Alike (recordAt t (j / 52)) (recordAt u (j / 52)) → Dec (verdictIn (recordAt t (j / 52)) ≡ 1) → nth t j ≡ nth u j
     late l h a (yes v) = absurd (n (record { branch = j / 52; place = j % 52; there = l; is-there = is; from-20 = h; to-51 = omega arith; shown-carrying = v }))
     late l h a (no v) = at (ap (λ (x : List ℕ). nth x (j % 52)) (a .whole v))
 
     inside : j / 52 < C .branches → Alike (recordAt t (j / 52)) (recordAt u (j / 52)) → Dec (j % 52 < 20) → nth t j ≡ nth u j
     inside l a (yes h) = at (a .front (j % 52) h)
-    inside l a (no h) = late l (omega arith) a (ℕ-discrete (verdictOf (recordAt t (j / 52))) 1)
+    inside l a (no h) = late l (omega arith) a (ℕ-discrete (verdictIn (recordAt t (j / 52))) 1)
 
     go : Dec (j < 52 * C .branches) → nth t j ≡ nth u j
     go (yes l) = let l′ : j / 52 < C .branches = omega arith in inside l′ (each (j / 52) l′) (decLt (j % 52) 20)
@@ -57,54 +60,51 @@ true-alike C f g t u a b k l = record {
 }
 
 -- ---- Answers.
-pub overloaded-same : (C : Case) (r s : Answer) → Overloaded C r → Overloaded C s → r ≡ s
+pub overloaded-same : (C : Case) (r s : Answer) → OverloadSaid C r → OverloadSaid C s → r ≡ s
 overloaded-same C r s o p =
-    let u = overload-unique C (o .shortage) (p .shortage) (has (o .group)) (has (p .group)) (o .overload) (p .overload) in
+    let u = largest-unique (o .overload) (p .overload) in
     let g = same-names (o .group) (p .group) (o .long ∙ sym (p .long)) (o .bytes) (p .bytes) (u .1) in
-    o .answer ∙ (λ i. overloaded (u .0 i) (g i)) ∙ sym (p .answer)
+    said-same (o .answer) (subst (λ (v : ℕ). Said s 12 v (o .group)) (sym (u .0)) (subst (λ (b : List ℕ). Said s 12 (p .shortage) b) (sym g) (p .answer)))
 
 -- A case with a fitting flow is not overloaded.
-pub fits-not-over : (C : Case) (f : ℕ → ℤ) (r : Answer) → Posed C → Fits C (C .limit) f → Overloaded C r → ⊥
-fits-not-over C f r p h o = never-overload C (o .shortage) (has (o .group)) (none-above C (C .limit) f p h) (o .overload)
+pub fits-not-over : (C : Case) (f : ℕ → ℤ) (r : Answer) → Posed C → Fits C (C .limit) f → OverloadSaid C r → ⊥
+fits-not-over C f r p h o = never-overload C (o .shortage) (has (o .group)) (fits-none C f p h) (o .overload)
 
 -- ---- What is left.
-module _ (C : Case) {flow flow₁ flow₂ : List ℤ} {table table₁ table₂ : List ℕ} {r s : Answer} where
-  pub kept-same : r ≡ s → flow₁ ≡ flow → table₁ ≡ table → flow₂ ≡ flow → table₂ ≡ table → SameResult C flow₁ table₁ r flow₂ table₂ s
-  kept-same e f t g u =
-      let fg : flow₁ ≡ flow₂ = f ∙ sym g in
-      let tu : table₁ ≡ table₂ = t ∙ sym u in
-      record {
-        answers = e;
-        flow-long = ap length fg;
-        flow-beyond = λ k l. ap (λ (x : List ℤ). on x k) fg;
-        table-long = ap length tu;
-        table-bytes = λ j h. ap (λ (x : List ℕ). nth x j) tu;
-        refused-flow = λ h. fg;
-        refused-table = λ h. tu;
-      }
+pub beyond-same : (C : Case) {before one two : Lent} → Beyond C before one → Beyond C before two → Beyond C two one
+beyond-same C x y = record {
+  flow-long = x .flow-long ∙ sym (y .flow-long);
+  flow-rest = λ k l. x .flow-rest k l ∙ sym (y .flow-rest k l);
+  table-long = x .table-long ∙ sym (y .table-long);
+  table-rest = λ j l. x .table-rest j l ∙ sym (y .table-rest j l);
+}
 
-  pub left-same : r ≡ s → r ≡ accepted → Beyond C flow table flow₁ table₁ → Beyond C flow table flow₂ table₂
-      → ((k : ℕ) → k < C .branches → Alike (recordAt table₁ k) (recordAt table₂ k)) → SameResult C flow₁ table₁ r flow₂ table₂ s
-  left-same e a x y each = record {
-    answers = e;
-    flow-long = x .flow-long ∙ sym (y .flow-long);
-    flow-beyond = λ k l. x .flow-rest k l ∙ sym (y .flow-rest k l);
-    table-long = x .table-long ∙ sym (y .table-long);
-    table-bytes = tables-same C table₁ table₂ each (λ j l. x .table-rest j l ∙ sym (y .table-rest j l));
-    refused-flow = λ h. absurd (h a);
-    refused-table = λ h. absurd (h a);
-  }
+pub beyond-none : (C : Case) {one two : Lent} → one ≡ two → Beyond C two one
+beyond-none C e = rw e (record { flow-long = refl; flow-rest = λ k l. refl; table-long = refl; table-rest = λ j l. refl })
+
+module _ (C : Case) {before one two : Lent} {r s : Answer} where
+  pub kept-same : r ≡ s → one ≡ before → two ≡ before → SameResult C one two r s
+  kept-same e a b =
+      let ab : one ≡ two = a ∙ sym b in
+      record { answers = e; books = ap (λ (l : Lent). l .book) ab; beyond = beyond-none C ab; table-bytes = λ j h. ap (λ (l : Lent). nth (l .table) j) ab; refused-same = λ h. ab }
+
+  pub left-same : r ≡ s → r ≡ accepted → one .book ≡ two .book → Beyond C before one → Beyond C before two
+      → ((k : ℕ) → k < C .branches → Alike (recordAt (one .table) k) (recordAt (two .table) k)) → SameResult C one two r s
+  left-same e a b x y each =
+      let z = beyond-same C x y in
+      record { answers = e; books = b; beyond = z; table-bytes = tables-same C (one .table) (two .table) each (z .table-rest); refused-same = λ h. absurd (h a) }
 
 -- ---- Screens.
-module _ {bs : List ℕ} {flow flow₁ flow₂ : List ℤ} {table table₁ table₂ : List ℕ} {r s : Answer} where
-  pub screens-same : ScreenEnds bs flow table flow₁ table₁ r → ScreenEnds bs flow table flow₂ table₂ s → SameResult (caseOf (bookOf bs)) flow₁ table₁ r flow₂ table₂ s
-  screens-same (refuses n a k) (refuses n′ a′ k′) = kept-same _ (a ∙ sym a′) (k .flow-kept) (k .table-kept) (k′ .flow-kept) (k′ .table-kept)
+module _ {before one two : Lent} {r s : Answer} where
+  pub screens-same : ScreenEnds before one r → ScreenEnds before two s → SameResult (caseIn (before .book)) one two r s
+  screens-same (refuses n a k) (refuses n′ a′ k′) = kept-same _ (said-same a a′) k k′
   screens-same (refuses n a k) (overloads c o k′) = absurd (n c)
   screens-same (refuses n a k) (accepts c a′ x) = absurd (n c)
   screens-same (overloads c o k) (refuses n a k′) = absurd (n c)
-  screens-same (overloads c o k) (overloads c′ o′ k′) = kept-same _ (overloaded-same _ r s o o′) (k .flow-kept) (k .table-kept) (k′ .flow-kept) (k′ .table-kept)
-  screens-same (overloads c o k) (accepts c′ a x) = absurd (fits-not-over _ (on flow₂) r (posed-book bs (passed bs _ _ c .book)) (x .table-true .fits) o)
+  screens-same (overloads c o k) (overloads c′ o′ k′) = kept-same _ (overloaded-same _ r s o o′) k k′
+  screens-same (overloads c o k) (accepts c′ a x) = absurd (fits-not-over _ (on (two .flow)) r (posed-book (before .book) (passed _ _ _ c .book)) (x .table-true .fits) o)
   screens-same (accepts c a x) (refuses n a′ k) = absurd (n c)
-  screens-same (accepts c a x) (overloads c′ o k) = absurd (fits-not-over _ (on flow₁) s (posed-book bs (passed bs _ _ c .book)) (x .table-true .fits) o)
+  screens-same (accepts c a x) (overloads c′ o k) = absurd (fits-not-over _ (on (one .flow)) s (posed-book (before .book) (passed _ _ _ c .book)) (x .table-true .fits) o)
   screens-same (accepts c a x) (accepts c′ a′ y) =
-      left-same _ (a ∙ sym a′) a (x .beyond) (y .beyond) (true-alike _ flow₁ flow₂ table₁ table₂ (x .table-true) (y .table-true))
+      left-same _ (said-same a a′) (is-accepted a) (x .book-kept ∙ sym (y .book-kept)) (x .beyond) (y .beyond)
+      (true-alike _ (one .flow) (two .flow) (one .table) (two .table) (x .table-true) (y .table-true))

@@ -1,5 +1,3 @@
-pub mod Reading
-pub mod Shown
+pub mod Answered
 pub mod Same
 pub mod Run
-pub mod Answered

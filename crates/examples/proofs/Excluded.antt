@@ -8,30 +8,31 @@ use lib.IntN.{ℤ, pos, natAbs, _-ℤ_}
 use lib.ListN.{length, getD, take}
 use lib.Seq.{getD-take}
 use Rattle.rows.specs.Row.{nth, every}
-use Rattle.rows.specs.Answer.{numberOf}
+use Rattle.answer.specs.Answer.{numberOf}
 use Rattle.rows.specs.Sum.{over, sum}
-use Rattle.rows.specs.declared.Outcome.the-variants.{Accepted}
-use Rattle.rows.specs.declared.Answer.{Answer}
+use Rattle.answer.specs.declared.Outcome.the-variants.{Accepted}
+use Rattle.answer.specs.declared.Answer.{Answer}
 use Rattle.grid.proofs.Tests.{_&_}
 use Rattle.quantity.specs.Signed.{posPart}
 use Rattle.layout.specs.Book.{Book}
 use Rattle.layout.specs.Fault.{branchFault}
 use Rattle.layout.specs.Layout.{encode}
-use Rattle.layout.proofs.Accept.{valid-accepted}
-use Rattle.layout.proofs.Trips.{count-encode, valid-encode, book-encode}
+use Rattle.layout.proofs.AcceptedWhere.{valid-accepted}
+use Rattle.layout.proofs.DecodeEncode.{count-encode, valid-encode, book-encode}
 use Rattle.verdict.specs.Case as verdict
 use Rattle.verdict.specs.Case.{on, leaving, arriving, Fits}
-use Rattle.verdict.specs.Record.{recordAt, verdictOf, names}
-use Rattle.record.specs.Bytes.{recordBytes}
-use Rattle.screen.specs.Case.{caseOf}
+use Rattle.verdict.specs.Record.{recordAt, verdictIn, names}
+use Rattle.verdict.specs.Update.{Lent}
+use Rattle.record.specs.Inside.{recordBytes}
+use Rattle.state.specs.Case.{caseOf, caseIn}
+use Rattle.state.specs.Call.{lent, refuses, unfit, overloads, accepts}
 use Rattle.screen.specs.Promise.{ScreenEnds}
-use Rattle.outage.specs.Promise.{Confined, takeCheck, TakeEnds, refuses, unfit, overloads, accepts}
+use Rattle.outage.specs.Promise.{Confined, takeCheck, TakeEnds}
+use Rattle.outage.proofs.Checking.{taking}
 use Rattle.demands.specs.Run.{Run}
-use Rattle.outage.proofs.Clearing.{branches-of}
-use Rattle.demands.proofs.Ends.{number-of}
-use Rattle.demands.proofs.Calls.{taking}
+use Rattle.state.proofs.Status.{branches-of}
 use Rattle.demands.proofs.Excluded.{eleven-first}
-use Rattle.demands.proofs.Record.{out-exactly}
+use Rattle.verdict.proofs.Shown.{out-exactly}
 use Rattle.demands.proofs.Demand3.{run-true, run-posed}
 use Rattle.examples.specs.Row.{out, carries, short, sightBytes, Row, shows, Shows, Takes}
 use Rattle.examples.specs.Table.{minus, joins, triangle, second, markedRows}
@@ -47,24 +48,24 @@ row-in (x ∷ xs) zero u = List·Memᴰ·head refl
 row-in (x ∷ xs) (suc k) u = List·Memᴰ·tail (row-in xs k (omega arith))
 
 -- Byte 0 from the first twenty.
-first-byte : (rec bytes : List ℕ) → take 20 rec ≡ bytes → verdictOf rec ≡ nth bytes 0
+first-byte : (rec bytes : List ℕ) → take 20 rec ≡ bytes → verdictIn rec ≡ nth bytes 0
 first-byte rec bytes e = sym (getD-take 20 rec 0 0 (omega arith)) ∙ ap (λ (x : List ℕ). nth x 0) e
 
 -- ---- Screens.
-module _ {flow flow′ : List ℤ} {table table′ : List ℕ} {r : Answer} where
+module _ {flow : List ℤ} {table : List ℕ} {after : Lent} {r : Answer} where
   -- One that refuses every book with 12.
-  pub all-refused : 3 ≤ length flow → 156 ≤ length table → ScreenEnds (encode T) flow table flow′ table′ r → numberOf (r .outcome) ≡ 12 → ⊥
+  pub all-refused : 3 ≤ length flow → 156 ≤ length table → ScreenEnds (lent (encode T) flow table) after r → numberOf (r .outcome) ≡ 12 → ⊥
   all-refused l m e n =
-      let s : Shows T (carries ∷ carries ∷ carries ∷ []) flow table flow′ table′ r = marked-examples _ (row-in markedRows 0 (omega arith)) flow table flow′ table′ r l m e in
+      let s : Shows T (carries ∷ carries ∷ carries ∷ []) (lent (encode T) flow table) after r = marked-examples _ (row-in markedRows 0 (omega arith)) flow table after r l m e in
       omega (arith, s .answer .number-is)
 
   -- One that calls every branch carrying.
-  pub all-carrying : 4 ≤ length flow → 208 ≤ length table → ScreenEnds (encode (second 25)) flow table flow′ table′ r → verdictOf (recordAt table′ 0) ≡ 1 → ⊥
+  pub all-carrying : 4 ≤ length flow → 208 ≤ length table → ScreenEnds (lent (encode (second 25)) flow table) after r → verdictIn (recordAt (after .table) 0) ≡ 1 → ⊥
   unfolding sightBytes recordBytes
   all-carrying l m e v =
-      let s : Shows (second 25) (short 20 (0 ∷ []) ∷ short 35 (0 ∷ 1 ∷ []) ∷ short 20 (0 ∷ 1 ∷ []) ∷ short 20 (0 ∷ 1 ∷ 2 ∷ []) ∷ []) flow table flow′ table′ r =
-      marked-examples _ (row-in markedRows 7 (omega arith)) flow table flow′ table′ r l m e in
-      omega (arith, first-byte (recordAt table′ 0) _ (s .records 0 (omega arith)))
+      let s : Shows (second 25) (short 20 (0 ∷ []) ∷ short 35 (0 ∷ 1 ∷ []) ∷ short 20 (0 ∷ 1 ∷ []) ∷ short 20 (0 ∷ 1 ∷ 2 ∷ []) ∷ []) (lent (encode (second 25)) flow table) after r =
+      marked-examples _ (row-in markedRows 7 (omega arith)) flow table after r l m e in
+      omega (arith, first-byte (recordAt (after .table) 0) _ (s .records 0 (omega arith)))
 
 -- ---- Calls: branch 0 of the triangle, on what a run left.
 well-T : wellTest T ≡ true
@@ -75,15 +76,16 @@ served-T : caseOf T .served 0 ≡ true
 unfolding caseOf
 served-T = refl
 
-module _ {flow flow′ : List ℤ} {table : List ℕ} {r : Answer} where
+module _ {flow : List ℤ} {table : List ℕ} {after : Lent} {r : Answer} where
   -- One that clears the bit, or does nothing at all, and leaves the table.
-  pub table-left : {bs′ : List ℕ} → Run (encode T) flow table → TakeEnds (encode T) flow table 0 bs′ flow′ table r → ⊥
+  pub table-left : Run (lent (encode T) flow table) → TakeEnds 0 (lent (encode T) flow table) after r → after .table ≡ table → ⊥
   unfolding sightBytes recordBytes
-  table-left {bs′} run e =
+  table-left run e same =
       let w = well-sound T well-T in
-      let t : Takes T 0 (out ∷ short 30 (0 ∷ []) ∷ short 10 (0 ∷ 2 ∷ []) ∷ []) bs′ table r =
-      marked-examples _ (row-in markedRows 2 (omega arith)) flow table bs′ flow′ table r run e in
-      let zero-byte : verdictOf (recordAt table 0) ≡ 0 = first-byte (recordAt table 0) _ (t .records 0 (omega arith)) in
+      let t : Takes T 0 (out ∷ short 30 (0 ∷ []) ∷ short 10 (0 ∷ 2 ∷ []) ∷ []) (lent (encode T) flow table) after r =
+      marked-examples _ (row-in markedRows 2 (omega arith)) flow table after r run e in
+      let anew : verdictIn (recordAt (after .table) 0) ≡ 0 = first-byte (recordAt (after .table) 0) _ (t .records 0 (omega arith)) in
+      let zero-byte : verdictIn (recordAt table 0) ≡ 0 = ap (λ (x : List ℕ). verdictIn (recordAt x 0)) (sym same) ∙ anew in
       let off = out-exactly _ (run-posed run) (on flow) 0 (recordAt table 0) (run-true run .each 0 (omega (arith, branches-of (encode T), count-encode T w))) .0 zero-byte in
       true≢false (sym served-T ∙ subst (λ (x : Book). caseOf x .served 0 ≡ false) (book-encode T w) off)
 
@@ -107,20 +109,22 @@ still-unfit : Fits (caseOf Open) (caseOf Open .limit) (on still) → ⊥
 unfolding caseOf sum
 still-unfit f = let e : pos 0 ≡ pos 30 = f .bus 0 (omega arith) in omega (arith, ap posPart e)
 
-module _ {flow′ : List ℤ} {table bs′ table′ : List ℕ} {r : Answer} where
+module _ {table : List ℕ} {after : Lent} {r : Answer} where
   -- One that tests 12 before 11.
-  pub twelve-first : 156 ≤ length table → TakeEnds (encode Open) still table 1 bs′ flow′ table′ r → numberOf (r .outcome) ≡ 12 → ⊥
+  pub twelve-first : 156 ≤ length table → TakeEnds 1 (lent (encode Open) still table) after r → numberOf (r .outcome) ≡ 12 → ⊥
   twelve-first l e n =
       let w = well-sound Open well-Open in
       let checked : takeCheck (encode Open) 3 (length table) 1 ≡ Accepted = taking (encode Open) 3 (length table) 1 (record {
-        book = valid-accepted (encode Open) (valid-encode Open w);
-        flow-room = omega (arith, count-encode Open w);
-        table-room = omega (arith, count-encode Open w);
+        passes = record {
+          book = valid-accepted (encode Open) (valid-encode Open w);
+          flow-room = omega (arith, count-encode Open w);
+          table-room = omega (arith, count-encode Open w);
+        };
         there = omega (arith, count-encode Open w);
         in-service = subst (λ (x : Book). caseOf x .served 1 ≡ true) (sym (book-encode Open w)) served-Open;
       }) in
       let eleven = eleven-first e checked (λ f. still-unfit (subst (λ (x : Book). Fits (caseOf x) (caseOf x .limit) (on still)) (book-encode Open w) f)) in
-      omega (arith, number-of eleven)
+      omega (arith, n, eleven .number-is)
 
 -- Three branches side by side carry 10 over the first; its record names the second alone.
 abbrev Abreast : Book
@@ -178,14 +182,20 @@ second-confined rec y (suc (suc (suc j))) u n q = absurd (omega arith)
 third-differs : on by-third 2 ≡ on by-first 2 → ⊥
 third-differs e = omega (arith, ap posPart e)
 
-module _ {table bs′ table′ : List ℕ} {r : Answer} where
+module _ {table : List ℕ} {after : Lent} {r : Answer} where
   -- One that drops the flow and screens afresh: 10 then goes over the third branch, which the record doesn't name.
-  pub flow-elsewhere : names (recordAt table 0) 1 ≡ true → names (recordAt table 0) 2 ≡ false → TakeEnds (encode Abreast) by-first table 0 bs′ by-third table′ r → ⊥
-  flow-elsewhere y n (refuses m a k) = third-differs (ap (λ (x : List ℤ). on x 2) (k .flow-kept))
-  flow-elsewhere y n (unfit c m a k) = third-differs (ap (λ (x : List ℤ). on x 2) (k .flow-kept))
-  flow-elsewhere y n (overloads c f o k) = third-differs (ap (λ (x : List ℤ). on x 2) (k .flow-kept))
-  flow-elsewhere y n (accepts c f a o) =
-      let w = well-sound Abreast well-Abreast in
-      let keeps = subst (λ (x : Book). (h : ℕ → ℤ) → Fits (verdict.out (caseOf x) 0) (caseOf x .limit) h → Confined (caseOf x) (on by-first) (recordAt table 0) 0 h
-      → Confined (caseOf x) (on by-first) (recordAt table 0) 0 (on by-third)) (book-encode Abreast w) (o .confined) in
-      third-differs (keeps (on by-second) second-fits (second-confined (recordAt table 0) y) 2 three-Abreast (λ e. omega (arith, e)) n)
+  pub flow-elsewhere : names (recordAt table 0) 1 ≡ true → names (recordAt table 0) 2 ≡ false → after .flow ≡ by-third → TakeEnds 0 (lent (encode Abreast) by-first table) after r → ⊥
+  flow-elsewhere y n third e = third-differs (go e)
+    where
+      kept : after ≡ lent (encode Abreast) by-first table → on by-third 2 ≡ on by-first 2
+      kept k = ap (λ (x : List ℤ). on x 2) (sym third ∙ ap (λ (l : Lent). l .flow) k)
+
+      go : TakeEnds 0 (lent (encode Abreast) by-first table) after r → on by-third 2 ≡ on by-first 2
+      go (refuses m a k) = kept k
+      go (unfit c m a k) = kept k
+      go (overloads c f o k) = kept k
+      go (accepts c f a o) =
+          let w = well-sound Abreast well-Abreast in
+          let keeps = subst (λ (x : Book). (h : ℕ → ℤ) → Fits (verdict.out (caseOf x) 0) (caseOf x .limit) h → Confined (caseOf x) (on by-first) (recordAt table 0) 0 h
+          → Confined (caseOf x) (on by-first) (recordAt table 0) 0 (on (after .flow))) (book-encode Abreast w) (o .confined) in
+          ap (λ (x : List ℤ). on x 2) (sym third) ∙ keeps (on by-second) second-fits (second-confined (recordAt table 0) y) 2 three-Abreast (λ e. omega (arith, e)) n

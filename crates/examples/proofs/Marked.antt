@@ -7,35 +7,36 @@ use borrow.Author.Tests.{eqb-true, ltb-true}
 use lib.Dec.{eqb, ltb}
 use lib.IntN.{ℤ}
 use lib.ListN.{length, getD, take}
-use Rattle.rows.specs.Row.{every, some, upTo}
+use Rattle.rows.specs.Row.{every, some, upTo, headed}
 use Rattle.rows.specs.Bit.{has, bitAt}
 use Rattle.rows.specs.Sum.{over, sum}
-use Rattle.rows.specs.Answer.{numberOf, shortageOf, overloaded}
-use Rattle.rows.specs.declared.Outcome.the-variants.{Accepted}
-use Rattle.rows.specs.declared.Answer.{Answer}
+use Rattle.answer.specs.Answer.{numberOf, noGroup, Said, overloaded, settled}
+use Rattle.answer.specs.declared.Outcome.the-variants.{Accepted}
+use Rattle.answer.specs.declared.Answer.{Answer}
 use Rattle.rows.proofs.Row.{every-at}
-use Rattle.rows.proofs.Refusals.{loud}
+use Rattle.answer.proofs.Said.{said-overloaded}
 use Rattle.bits.specs.Field.{withBit, setBit}
 use Rattle.grid.proofs.Tests.{_&_, _⇒_, and-left, and-right, everyGroup}
 use Rattle.grid.proofs.Trial.{mostTest, smallestTest}
 use Rattle.layout.specs.Book.{Book, count, WellFormed}
 use Rattle.layout.specs.Fault.{branchFault}
 use Rattle.layout.specs.Layout.{statusBit, encode}
-use Rattle.layout.proofs.Accept.{valid-accepted}
-use Rattle.layout.proofs.Trips.{buses-encode, count-encode, valid-encode, book-encode}
+use Rattle.layout.proofs.AcceptedWhere.{valid-accepted}
+use Rattle.layout.proofs.DecodeEncode.{buses-encode, count-encode, valid-encode, book-encode}
 use Rattle.verdict.specs.Case.{Case, Posed, out, on}
 use Rattle.verdict.specs.Record.{recordAt, TrueTable}
 use Rattle.verdict.proofs.Fitting.{posed-status}
 use Rattle.verdict.proofs.Loss.{never-overload}
-use Rattle.screen.specs.Case.{caseOf}
-use Rattle.screen.specs.Promise.{screenCheck, Overloaded, Screened, ScreenEnds, refuses, overloads, accepts}
-use Rattle.screen.proofs.Opening.{posed}
-use Rattle.outage.specs.Promise as outage
-use Rattle.outage.specs.Promise.{takeCheck, TakeEnds, unfit}
-use Rattle.meters.specs.Registers.{tooFar, answerTo}
-use Rattle.meters.specs.Promise.{leftBy}
+use Rattle.verdict.specs.Update.{Lent}
+use Rattle.state.specs.Case.{caseOf, caseIn}
+use Rattle.state.specs.Call as call
+use Rattle.state.specs.Call.{lent, OverloadSaid}
+use Rattle.state.proofs.Opening.{posed}
+use Rattle.state.proofs.Checked.{passing}
+use Rattle.screen.specs.Promise.{screenCheck, Screened, ScreenEnds, refuses, overloads, accepts}
+use Rattle.outage.specs.Promise.{takeCheck, TakenOut, TakeEnds}
+use Rattle.meters.specs.Registers.{buses, injection, tooFar, answerTo}
 use Rattle.demands.specs.Run.{Run}
-use Rattle.demands.proofs.Ends.{passing}
 use Rattle.demands.proofs.Calls.{call-true}
 use Rattle.demands.proofs.Demand3.{run-true, run-posed, run-fits, call-checked}
 use Rattle.demands.proofs.Unique.{overloaded-same, fits-not-over}
@@ -59,10 +60,9 @@ rowTest (takes b k sights) =
     & (eqb (length sights) (count b)
     & every (count b) (λ j. sightTest (out (caseOf b) k) j (getD sights j row.out))))))
 rowTest (keeps b k v group) = wellTest b & (ltb k (count b) & (caseOf b .served k & overloadTest (out (caseOf b) k) v group))
-rowTest (meters R lent number output) =
-    eqb (numberOf (answerTo R (length lent))) number
-    & (eqb (shortageOf (answerTo R (length lent))) 0
-    & sameNumbers (leftBy (answerTo R (length lent)) R lent) output)
+rowTest (meters R space number output) =
+    eqb (numberOf (answerTo R (length space))) number
+    & sameNumbers (settled (answerTo R (length space)) space (headed (buses R) (injection R) space)) output
 
 -- ---- What a test gives of one record.
 record-shows : (C : Case) (flow : List ℤ) (table : List ℕ) (k : ℕ) (s : Sight) → Posed C → TrueTable C flow table → k < C .branches → sightTest C k s ≡ true
@@ -74,11 +74,11 @@ unfolding caseOf
 count-in b k u = u
 
 -- The answer that a refusal with 12 must be.
-group-overloads : (C : Case) (v : ℕ) (group : List ℕ) → Posed C → overloadTest C v group ≡ true → Overloaded C (overloaded v (groupBytes group))
+group-overloads : (C : Case) (v : ℕ) (group : List ℕ) → Posed C → overloadTest C v group ≡ true → OverloadSaid C (overloaded v (groupBytes group))
 group-overloads C v group p t = record {
   shortage = v;
   group = groupBytes group;
-  answer = refl;
+  answer = said-overloaded v (groupBytes group);
   long = long-group group;
   bytes = bytes-group group;
   overload = overload-sound C p v group t;
@@ -86,82 +86,88 @@ group-overloads C v group p t = record {
 
 -- ---- A screen of an encoded book that is lent enough passes its checks, and judges the case of the book.
 module _ (b : Book) (w : WellFormed b) (flow : List ℤ) (table : List ℕ) (flow-room : count b ≤ length flow) (table-room : 52 * count b ≤ length table) where
-  passes : screenCheck (encode b) (length flow) (length table) ≡ Accepted
+  abbrev before : Lent
+  before = lent (encode b) flow table
+
+  passes : screenCheck before ≡ Accepted
   passes = passing (encode b) (length flow) (length table) (record {
     book = valid-accepted (encode b) (valid-encode b w);
     flow-room = rw (count-encode b w) flow-room;
     table-room = rw (count-encode b w) table-room;
   })
 
-  module _ {flow′ : List ℤ} {table′ : List ℕ} {r : Answer} where
+  its-overload : {r : Answer} → OverloadSaid (caseIn (encode b)) r → OverloadSaid (caseOf b) r
+  its-overload {r} o = subst (λ (x : Book). OverloadSaid (caseOf x) r) (book-encode b w) o
+
+  its-table : {after : Lent} → Screened (caseIn (encode b)) before after → Screened (caseOf b) before after
+  its-table {after} s = subst (λ (x : Book). Screened (caseOf x) before after) (book-encode b w) s
+
+  module _ {after : Lent} {r : Answer} where
     shows-all : (sights : List Sight) → noExcessTest (caseOf b) ≡ true → eqb (length sights) (count b) ≡ true → every (count b) (λ k. sightTest (caseOf b) k (getD sights k row.out)) ≡ true
-        → ScreenEnds (encode b) flow table flow′ table′ r → Shows b sights flow table flow′ table′ r
+        → ScreenEnds before after r → Shows b sights before after r
     shows-all sights n l t (refuses m a k) = absurd (m passes)
     shows-all sights n l t (overloads c o k) =
-        let o′ = subst (λ (x : Book). Overloaded (caseOf x) r) (book-encode b w) o in
-        absurd (never-overload (caseOf b) (o′ .shortage) (has (o′ .group)) (no-excess-sound (caseOf b) (posed b w) n) (o′ .overload))
-    shows-all sights n l t (accepts c a s) =
-        let s′ = subst (λ (x : Book). Screened (caseOf x) flow table flow′ table′) (book-encode b w) s in
-        record {
-          answer = rw a (record { number-is = refl; shortage-is = refl; group-is = refl });
-          one-each = eqb-true _ _ l;
-          records = λ k u. record-shows (caseOf b) flow′ table′ k (getD sights k row.out) (posed b w) (s′ .table-true) (count-in b k u)
-              (every-at (λ k. sightTest (caseOf b) k (getD sights k row.out)) (count b) t k u);
-          beyond = s′ .beyond;
-        }
+        absurd (never-overload (caseOf b) (its-overload o .shortage) (has (its-overload o .group)) (no-excess-sound (caseOf b) (posed b w) n) (its-overload o .overload))
+    shows-all sights n l t (accepts c a s) = record {
+      answer = a;
+      one-each = eqb-true _ _ l;
+      records = λ k u. record-shows (caseOf b) (after .flow) (after .table) k (getD sights k row.out) (posed b w) (its-table s .table-true) (count-in b k u)
+          (every-at (λ k. sightTest (caseOf b) k (getD sights k row.out)) (count b) t k u);
+      beyond = its-table s .beyond;
+    }
 
-    refuses-all : (v : ℕ) (group : List ℕ) → overloadTest (caseOf b) v group ≡ true → ScreenEnds (encode b) flow table flow′ table′ r → Refuses v group flow table flow′ table′ r
+    refuses-all : (v : ℕ) (group : List ℕ) → overloadTest (caseOf b) v group ≡ true → ScreenEnds before after r → Refuses v group before after r
     refuses-all v group t (refuses m a k) = absurd (m passes)
     refuses-all v group t (overloads c o k) =
-        let o′ = subst (λ (x : Book). Overloaded (caseOf x) r) (book-encode b w) o in
-        let e = overloaded-same (caseOf b) r (overloaded v (groupBytes group)) o′ (group-overloads (caseOf b) v group (posed b w) t) in
-        record { answer = rw e (loud v (groupBytes group)); flow-kept = k .flow-kept; table-kept = k .table-kept }
+        let e = overloaded-same (caseOf b) r (overloaded v (groupBytes group)) (its-overload o) (group-overloads (caseOf b) v group (posed b w) t) in
+        record { answer = rw e (said-overloaded v (groupBytes group)); kept = k }
     refuses-all v group t (accepts c a s) =
-        let s′ = subst (λ (x : Book). Screened (caseOf x) flow table flow′ table′) (book-encode b w) s in
-        absurd (fits-not-over (caseOf b) (on flow′) (overloaded v (groupBytes group)) (posed b w) (s′ .table-true .fits) (group-overloads (caseOf b) v group (posed b w) t))
+        absurd (fits-not-over (caseOf b) (on (after .flow)) (overloaded v (groupBytes group)) (posed b w) (its-table s .table-true .fits) (group-overloads (caseOf b) v group (posed b w) t))
 
 -- ---- A call on what a run left of an encoded book judges the case of the book without the branch.
-module _ (b : Book) (w : WellFormed b) (k : ℕ) (there : k < count b) (in-service : caseOf b .served k ≡ true) {flow flow′ : List ℤ} {table table′ bs′ : List ℕ} {r : Answer}
-    (run : Run (encode b) flow table) (e : TakeEnds (encode b) flow table k bs′ flow′ table′ r) where
+module _ (b : Book) (w : WellFormed b) (k : ℕ) (there : k < count b) (in-service : caseOf b .served k ≡ true) {flow : List ℤ} {table : List ℕ} {after : Lent} {r : Answer}
+    (run : Run (lent (encode b) flow table)) (e : TakeEnds k (lent (encode b) flow table) after r) where
   checked : takeCheck (encode b) (length flow) (length table) k ≡ Accepted
   checked = call-checked run e (rw (count-encode b w) there) (subst (λ (x : Book). caseOf x .served k ≡ true) (sym (book-encode b w)) in-service)
 
   posed-less : Posed (out (caseOf b) k)
   posed-less = posed-status (caseOf b) k false (posed b w)
 
+  over-less : OverloadSaid (out (caseIn (encode b)) k) r → OverloadSaid (out (caseOf b) k) r
+  over-less o = subst (λ (x : Book). OverloadSaid (out (caseOf x) k) r) (book-encode b w) o
+
+  true-less : TakenOut k (lent (encode b) flow table) after → TrueTable (out (caseOf b) k) (after .flow) (after .table)
+  true-less o = subst (λ (x : Book). TrueTable (out (caseOf x) k) (after .flow) (after .table)) (book-encode b w) (call-true (run-posed run) o (run-true run))
+
   takes-all : (sights : List Sight) → noExcessTest (out (caseOf b) k) ≡ true → eqb (length sights) (count b) ≡ true
-      → every (count b) (λ j. sightTest (out (caseOf b) k) j (getD sights j row.out)) ≡ true → Takes b k sights bs′ table′ r
+      → every (count b) (λ j. sightTest (out (caseOf b) k) j (getD sights j row.out)) ≡ true → Takes b k sights (lent (encode b) flow table) after r
   takes-all sights n l t = go e
     where
-      go : TakeEnds (encode b) flow table k bs′ flow′ table′ r → Takes b k sights bs′ table′ r
-      go (outage.refuses m a h) = absurd (m checked)
-      go (unfit c m a h) = absurd (m (run-fits run))
-      go (outage.overloads c f o h) =
-          let o′ = subst (λ (x : Book). Overloaded (out (caseOf x) k) r) (book-encode b w) o in
+      go : TakeEnds k (lent (encode b) flow table) after r → Takes b k sights (lent (encode b) flow table) after r
+      go (call.refuses m a h) = absurd (m checked)
+      go (call.unfit c m a h) = absurd (m (run-fits run))
+      go (call.overloads c f o h) =
+          let o′ = over-less o in
           absurd (never-overload (out (caseOf b) k) (o′ .shortage) (has (o′ .group)) (no-excess-sound (out (caseOf b) k) posed-less n) (o′ .overload))
-      go (outage.accepts c f a o) =
-          let s′ = subst (λ (x : Book). TrueTable (out (caseOf x) k) flow′ table′) (book-encode b w) (call-true (run-posed run) o (run-true run)) in
-          record {
-            answer = rw a (record { number-is = refl; shortage-is = refl; group-is = refl });
-            book-is = subst (λ (m : ℕ). bs′ ≡ setBit (encode b) (statusBit m k) 0) (buses-encode b w) (o .book-is);
-            one-each = eqb-true _ _ l;
-            records = λ j u. record-shows (out (caseOf b) k) flow′ table′ j (getD sights j row.out) posed-less s′ (count-in b j u)
-                (every-at (λ j. sightTest (out (caseOf b) k) j (getD sights j row.out)) (count b) t j u);
-          }
+      go (call.accepts c f a o) = record {
+        answer = a;
+        book-is = subst (λ (m : ℕ). after .book ≡ setBit (encode b) (statusBit m k) 0) (buses-encode b w) (o .book-is);
+        one-each = eqb-true _ _ l;
+        records = λ j u. record-shows (out (caseOf b) k) (after .flow) (after .table) j (getD sights j row.out) posed-less (true-less o) (count-in b j u)
+            (every-at (λ j. sightTest (out (caseOf b) k) j (getD sights j row.out)) (count b) t j u);
+      }
 
-  keeps-all : (v : ℕ) (group : List ℕ) → overloadTest (out (caseOf b) k) v group ≡ true → (bs′ ≡ encode b) × Refuses v group flow table flow′ table′ r
+  keeps-all : (v : ℕ) (group : List ℕ) → overloadTest (out (caseOf b) k) v group ≡ true → Refuses v group (lent (encode b) flow table) after r
   keeps-all v group t = go e
     where
-      go : TakeEnds (encode b) flow table k bs′ flow′ table′ r → (bs′ ≡ encode b) × Refuses v group flow table flow′ table′ r
-      go (outage.refuses m a h) = absurd (m checked)
-      go (unfit c m a h) = absurd (m (run-fits run))
-      go (outage.overloads c f o h) =
-          let o′ = subst (λ (x : Book). Overloaded (out (caseOf x) k) r) (book-encode b w) o in
-          let q = overloaded-same (out (caseOf b) k) r (overloaded v (groupBytes group)) o′ (group-overloads (out (caseOf b) k) v group posed-less t) in
-          (h .book-kept, record { answer = rw q (loud v (groupBytes group)); flow-kept = h .flow-kept; table-kept = h .table-kept })
-      go (outage.accepts c f a o) =
-          let s′ = subst (λ (x : Book). TrueTable (out (caseOf x) k) flow′ table′) (book-encode b w) (call-true (run-posed run) o (run-true run)) in
-          absurd (fits-not-over (out (caseOf b) k) (on flow′) (overloaded v (groupBytes group)) posed-less (s′ .fits) (group-overloads (out (caseOf b) k) v group posed-less t))
+      go : TakeEnds k (lent (encode b) flow table) after r → Refuses v group (lent (encode b) flow table) after r
+      go (call.refuses m a h) = absurd (m checked)
+      go (call.unfit c m a h) = absurd (m (run-fits run))
+      go (call.overloads c f o h) =
+          let q = overloaded-same (out (caseOf b) k) r (overloaded v (groupBytes group)) (over-less o) (group-overloads (out (caseOf b) k) v group posed-less t) in
+          record { answer = rw q (said-overloaded v (groupBytes group)); kept = h }
+      go (call.accepts c f a o) =
+          absurd (fits-not-over (out (caseOf b) k) (on (after .flow)) (overloaded v (groupBytes group)) posed-less (true-less o .fits) (group-overloads (out (caseOf b) k) v group posed-less t))
 
 -- ---- The one soundness law.
 pub row-sound : (x : Row) → rowTest x ≡ true → Holds x
@@ -169,27 +175,23 @@ unfolding rowTest
 row-sound (shows b sights) t =
     let t₁ = and-right _ _ t in
     let t₂ = and-right _ _ t₁ in
-    λ flow table flow′ table′ r l m e.
+    λ flow table after r l m e.
     shows-all b (well-sound b (and-left _ _ t)) flow table l m sights (and-left _ _ t₁) (and-left _ _ t₂) (and-right _ _ t₂) e
-row-sound (row.refuses b v group) t = λ flow table flow′ table′ r l m e. refuses-all b (well-sound b (and-left _ _ t)) flow table l m v group (and-right _ _ t) e
+row-sound (row.refuses b v group) t = λ flow table after r l m e. refuses-all b (well-sound b (and-left _ _ t)) flow table l m v group (and-right _ _ t) e
 row-sound (takes b k sights) t =
     let t₁ = and-right _ _ t in
     let t₂ = and-right _ _ t₁ in
     let t₃ = and-right _ _ t₂ in
     let t₄ = and-right _ _ t₃ in
-    λ flow table bs′ flow′ table′ r run e.
+    λ flow table after r run e.
     takes-all b (well-sound b (and-left _ _ t)) k (ltb-true _ _ (and-left _ _ t₁)) (and-left _ _ t₂) run e sights (and-left _ _ t₃) (and-left _ _ t₄) (and-right _ _ t₄)
 row-sound (keeps b k v group) t =
     let t₁ = and-right _ _ t in
     let t₂ = and-right _ _ t₁ in
-    λ flow table bs′ flow′ table′ r run e. keeps-all b (well-sound b (and-left _ _ t)) k (ltb-true _ _ (and-left _ _ t₁)) (and-left _ _ t₂) run e v group (and-right _ _ t₂)
-row-sound (meters R lent number output) t = λ left r m. record {
-  answer = rw (m .answer) (record {
-    number-is = eqb-true _ _ (and-left _ _ t);
-    shortage-is = eqb-true _ _ (and-left _ _ (and-right _ _ t));
-    group-is = refl;
-  });
-  output-is = m .output ∙ same-sound _ _ (and-right _ _ (and-right _ _ t));
+    λ flow table after r run e. keeps-all b (well-sound b (and-left _ _ t)) k (ltb-true _ _ (and-left _ _ t₁)) (and-left _ _ t₂) run e v group (and-right _ _ t₂)
+row-sound (meters R space number output) t = λ left r m. record {
+  answer = subst (λ (n : ℕ). Said r n 0 noGroup) (eqb-true _ _ (and-left _ _ t)) (m .answer);
+  output-is = m .output ∙ same-sound _ _ (and-right _ _ t);
 }
 
 unfoldable pub rowsTest : List Row → Bool

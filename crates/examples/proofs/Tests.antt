@@ -11,13 +11,13 @@ use lib.ListN.{length, take, length-append, length-take, List·getD-append}
 use lib.Seq.{getD-take, ext-getD}
 use Rattle.rows.specs.Row.{nth, every}
 use Rattle.rows.specs.Bit.{has}
-use Rattle.rows.specs.Answer.{noGroup}
+use Rattle.rows.specs.Sum.{any}
+use Rattle.answer.specs.Answer.{noGroup}
 use Rattle.rows.proofs.Row.{every-at}
 use Rattle.quantity.specs.Signed.{posPart, negPart}
 use Rattle.quantity.proofs.Parts.{by-parts}
 use Rattle.bits.specs.Field.{Bytes}
-use Rattle.bits.proofs.Bits.{length-setBit, bytes-setBit, bytes-zeros}
-use Rattle.grid.specs.Excess.{any}
+use Rattle.bits.proofs.ReadAsPut.{length-setBit, bytes-setBit, bytes-zeros}
 use Rattle.grid.proofs.Without.{ends-without}
 use Rattle.grid.proofs.Tests.{_&_, _⇒_, and-left, and-right, imply}
 use Rattle.grid.proofs.Trial.{any-decided, crosses-decided, mostTest, most-sound, smallestTest, smallest-sound}
@@ -25,17 +25,18 @@ use Rattle.layout.specs.Book.{Book, buses, count, injection, branch, size, Well
 use Rattle.layout.specs.Fault.{branchFault}
 use Rattle.layout.specs.Check.{outside, balances}
 use Rattle.layout.proofs.Faults.{sound-branch}
-use Rattle.layout.proofs.Accept.{in-range}
+use Rattle.layout.proofs.AcceptedWhere.{in-range}
 use Rattle.layout.proofs.WellFormed.{balance-sum}
 use Rattle.verdict.specs.Case.{Case, Posed}
-use Rattle.verdict.specs.Excess.{base, lossNet, separates, NoExcess, Overload, Short, Carries}
-use Rattle.verdict.specs.Record.{verdictOf, shortageOf, groupOf, Zero, Told, opened, carrying, lacking, TrueRecord}
+use Rattle.verdict.specs.Excess.{oneEnd, NoExcess, Overload, Short, Carries}
+use Rattle.verdict.proofs.Plain.{base, lossNet, overload-plain, no-excess-plain, short-plain, carries-plain}
+use Rattle.verdict.specs.Record.{verdictIn, shortageIn, groupIn, Zero, Told, is-out, carries, short, TrueRecord}
 use Rattle.verdict.proofs.Fitting.{ends}
 use Rattle.verdict.proofs.Loss.{never-both}
-use Rattle.verdict.proofs.Unique.{first-twenty}
-use Rattle.record.specs.Bytes.{recordBytes}
+use Rattle.verdict.proofs.VerdictByCase.{first-twenty}
+use Rattle.record.specs.Inside.{recordBytes}
 use Rattle.record.proofs.Made.{record-long, record-verdict, record-shortage, record-group, record-bytes, record-plain, record-tail}
-use Rattle.screen.proofs.Judging.{none, none-at, clipped}
+use Rattle.state.proofs.TrueRecords.{none, none-at, clipped}
 use Rattle.examples.specs.Row.{Sight, out, carries, short, groupBytes, sightBytes}
 
 -- ---- A well-formed book.
@@ -106,12 +107,12 @@ noExcessTest C = mostTest (base C) any 0
 
 unfoldable pub sightTest : Case → ℕ → Sight → Bool
 sightTest C k out = not (C .served k)
-sightTest C k carries = C .served k & mostTest (lossNet C k) (separates C k) 0
+sightTest C k carries = C .served k & mostTest (lossNet C k) (oneEnd C k) 0
 sightTest C k (short v g) =
     C .served k
     & (ltb 0 v
     & (ltb v 16777216
-    & (smallestTest (lossNet C k) (separates C k) (has (groupBytes g)) v
+    & (smallestTest (lossNet C k) (oneEnd C k) (has (groupBytes g)) v
     & insideTest (C .buses) g)))
 
 module _ (C : Case) (p : Posed C) where
@@ -119,26 +120,30 @@ module _ (C : Case) (p : Posed C) where
   unfolding overloadTest
   overload-sound v g t =
       let t₁ = and-right _ _ t in
-      record {
+      overload-plain C v (has (groupBytes g)) .1 (record {
         above = ltb-true _ _ (and-left _ _ t);
         smallest = smallest-sound (base C) (ends C (C .limit) p) any (any-decided (base C)) (has (groupBytes g)) v (and-left _ _ t₁);
         beyond = inside-sound (C .buses) g (and-right _ _ t₁);
-      }
+      })
 
   pub no-excess-sound : noExcessTest C ≡ true → NoExcess C
   unfolding noExcessTest
-  no-excess-sound t S = most-sound (base C) (ends C (C .limit) p) any (any-decided (base C)) 0 t S refl
+  no-excess-sound t = no-excess-plain C .1 (λ S. most-sound (base C) (ends C (C .limit) p) any (any-decided (base C)) 0 t S refl)
 
   module _ (k : ℕ) (u : k < C .branches) where
-    carries-sound : mostTest (lossNet C k) (separates C k) 0 ≡ true → Carries C k
+    carries-sound : mostTest (lossNet C k) (oneEnd C k) 0 ≡ true → Carries C k
     carries-sound t =
         let e = ends-without _ k (ends C (C .loss-limit) p) in
-        most-sound (lossNet C k) e (separates C k) (crosses-decided (lossNet C k) e k u) 0 t
+        carries-plain C k .1 (most-sound (lossNet C k) e (oneEnd C k) (crosses-decided (lossNet C k) e k u) 0 t)
 
-    short-sound : (v : ℕ) (g : List ℕ) → ltb 0 v ≡ true → smallestTest (lossNet C k) (separates C k) (has (groupBytes g)) v ≡ true → Short C k v (has (groupBytes g))
-    short-sound v g a t =
+    short-sound : (v : ℕ) (g : List ℕ) → ltb 0 v ≡ true → smallestTest (lossNet C k) (oneEnd C k) (has (groupBytes g)) v ≡ true → insideTest (C .buses) g ≡ true → Short C k v (has (groupBytes g))
+    short-sound v g a t i =
         let e = ends-without _ k (ends C (C .loss-limit) p) in
-        record { above = ltb-true _ _ a; smallest = smallest-sound (lossNet C k) e (separates C k) (crosses-decided (lossNet C k) e k u) (has (groupBytes g)) v t }
+        short-plain C k v (has (groupBytes g)) .1 (record {
+          above = ltb-true _ _ a;
+          smallest = smallest-sound (lossNet C k) e (oneEnd C k) (crosses-decided (lossNet C k) e k u) (has (groupBytes g)) v t;
+          beyond = inside-sound (C .buses) g i;
+        })
 
 -- ---- Bytes 0 to 19 of a true record.
 front-bytes : (v s : ℕ) (g h : List ℕ) → length g ≡ 16 → (j : ℕ) → j < 20 → nth (recordBytes v s g h) j ≡ nth (recordBytes v s g []) j
@@ -161,20 +166,19 @@ front-is rec v s g h lr lg e =
     getD-take 20 rec j 0 l′ ∙ e j l′ ∙ front-bytes v s g h lg j l′)
 
 -- A record without shortage and group.
-plain-front : (rec : List ℕ) (v : ℕ) → verdictOf rec ≡ v → Zero rec 1 20 → (j : ℕ) → j < 20 → nth rec j ≡ nth (recordBytes v 0 noGroup (none 32)) j
+plain-front : (rec : List ℕ) (v : ℕ) → verdictIn rec ≡ v → Zero rec 1 20 → (j : ℕ) → j < 20 → nth rec j ≡ nth (recordBytes v 0 noGroup (none 32)) j
 plain-front rec v e z zero u = e ∙ sym (record-verdict v 0 noGroup (none 32) refl refl)
 plain-front rec v e z (suc j) u = z (suc j) (omega arith) u ∙ sym (record-plain v 0 noGroup (none 32) refl refl refl (none-at 16) (suc j) (omega arith) u)
 
 -- A short branch's record, its reroute zero, is true.
-short-true : (C : Case) (f : ℕ → ℤ) (k v : ℕ) (g : List ℕ) → length g ≡ 16 → Bytes g → C .served k ≡ true → v < 16777216 → Short C k v (has g) → ((i : ℕ) → C .buses ≤ i → has g i ≡ false)
+short-true : (C : Case) (f : ℕ → ℤ) (k v : ℕ) (g : List ℕ) → length g ≡ 16 → Bytes g → C .served k ≡ true → v < 16777216 → Short C k v (has g)
     → TrueRecord C f k (recordBytes 2 v g (none 32))
-short-true C f k v g lg bg i lv s z = record {
+short-true C f k v g lg bg i lv s = record {
   long = record-long 2 v g (none 32) lg refl;
   bytes = record-bytes 2 v g (none 32) lg refl (omega arith) lv bg (bytes-zeros 32);
-  told = lacking i
+  told = short i
       (rw (record-shortage 2 v g (none 32) lg refl lv, fun-ext (record-group 2 v g (none 32) lg refl)) s)
       (record-verdict 2 v g (none 32) lg refl)
-      (λ j l. record-group 2 v g (none 32) lg refl j ∙ z j l)
       (λ j l u. record-tail 2 v g (none 32) lg refl j l ∙ none-at 32 (j - 20));
 }
 
@@ -186,19 +190,19 @@ sight-sound C f k rec p u t out w = front-is rec 0 0 noGroup (none 32) (t .long)
     off = not-true _ w
 
     go : Told C f k rec → (j : ℕ) → j < 20 → nth rec j ≡ nth (recordBytes 0 0 noGroup (none 32)) j
-    go (opened i v z) = plain-front rec 0 v (λ j l h. z j l (omega arith))
-    go (carrying i c v z m) = absurd (true≢false (sym i ∙ off))
-    go (lacking i s v z m) = absurd (true≢false (sym i ∙ off))
+    go (is-out i v z) = plain-front rec 0 v (λ j l h. z j l (omega arith))
+    go (carries i c v z m) = absurd (true≢false (sym i ∙ off))
+    go (short i s v z) = absurd (true≢false (sym i ∙ off))
 sight-sound C f k rec p u t carries w = front-is rec 1 0 noGroup (none 32) (t .long) refl (go (t .told))
   where
     go : Told C f k rec → (j : ℕ) → j < 20 → nth rec j ≡ nth (recordBytes 1 0 noGroup (none 32)) j
-    go (opened i v z) = absurd (true≢false (sym (and-left _ _ w) ∙ i))
-    go (carrying i c v z m) = plain-front rec 1 v z
-    go (lacking i s v z m) = absurd (never-both C k (shortageOf rec) (groupOf rec) (carries-sound C p k u (and-right _ _ w)) s)
+    go (is-out i v z) = absurd (true≢false (sym (and-left _ _ w) ∙ i))
+    go (carries i c v z m) = plain-front rec 1 v z
+    go (short i s v z) = absurd (never-both C k (shortageIn rec) (groupIn rec) (carries-sound C p k u (and-right _ _ w)) s)
 sight-sound C f k rec p u t (short v g) w =
     let w₁ = and-right _ _ w in
     let w₂ = and-right _ _ w₁ in
     let w₃ = and-right _ _ w₂ in
-    let s = short-sound C p k u v g (and-left _ _ w₁) (and-left _ _ w₃) in
-    let canon = short-true C f k v (groupBytes g) (long-group g) (bytes-group g) (and-left _ _ w) (ltb-true _ _ (and-left _ _ w₂)) s (inside-sound (C .buses) g (and-right _ _ w₃)) in
+    let s = short-sound C p k u v g (and-left _ _ w₁) (and-left _ _ w₃) (and-right _ _ w₃) in
+    let canon = short-true C f k v (groupBytes g) (long-group g) (bytes-group g) (and-left _ _ w) (ltb-true _ _ (and-left _ _ w₂)) s in
     front-is rec 2 v (groupBytes g) (none 32) (t .long) (long-group g) (first-twenty C f f k rec (recordBytes 2 v (groupBytes g) (none 32)) t canon)

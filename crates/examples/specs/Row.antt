@@ -4,14 +4,16 @@ use mathlib.Core.List.{List, [], _∷_}
 use Prim.Native.Nat.{ℕ, _*_, _≤_, _<_}
 use lib.IntN.{ℤ}
 use lib.ListN.{length, getD, take}
-use Rattle.rows.specs.Answer.{Said, noGroup}
-use Rattle.rows.specs.declared.Answer.{Answer}
+use Rattle.answer.specs.Answer.{Said, noGroup}
+use Rattle.answer.specs.declared.Answer.{Answer}
 use Rattle.bits.specs.Field.{setBit}
 use Rattle.layout.specs.Book.{Book, buses, count}
 use Rattle.layout.specs.Layout.{statusBit, encode}
-use Rattle.verdict.specs.Record.{recordAt, Beyond}
-use Rattle.record.specs.Bytes.{recordBytes}
-use Rattle.screen.specs.Case.{caseOf}
+use Rattle.verdict.specs.Record.{recordAt}
+use Rattle.verdict.specs.Update.{Lent, Beyond}
+use Rattle.record.specs.Inside.{recordBytes}
+use Rattle.state.specs.Case.{caseOf}
+use Rattle.state.specs.Call.{lent}
 use Rattle.screen.specs.Promise.{ScreenEnds}
 use Rattle.outage.specs.Promise.{TakeEnds}
 use Rattle.demands.specs.Run.{Run}
@@ -46,43 +48,42 @@ pub data Row : Type 0 where
   meters : Registers → List ℤ → ℕ → List ℤ → Row
 
 -- What a screen of the book b then leaves.
-pub record Shows (b : Book) (sights : List Sight) (flow : List ℤ) (table : List ℕ) (flow′ : List ℤ) (table′ : List ℕ) (r : Answer) : Type 0 where
+pub record Shows (b : Book) (sights : List Sight) (before after : Lent) (r : Answer) : Type 0 where
   pub answer : Said r 0 0 noGroup
   pub one-each : length sights ≡ count b
-  pub records : (k : ℕ) → k < count b → take 20 (recordAt table′ k) ≡ sightBytes (getD sights k out)
-  pub beyond : Beyond (caseOf b) flow table flow′ table′
+  pub records : (k : ℕ) → k < count b → take 20 (recordAt (after .table) k) ≡ sightBytes (getD sights k out)
+  pub beyond : Beyond (caseOf b) before after
 
-pub record Refuses (v : ℕ) (group : List ℕ) (flow : List ℤ) (table : List ℕ) (flow′ : List ℤ) (table′ : List ℕ) (r : Answer) : Type 0 where
+pub record Refuses (v : ℕ) (group : List ℕ) (before after : Lent) (r : Answer) : Type 0 where
   pub answer : Said r 12 v (groupBytes group)
-  pub flow-kept : flow′ ≡ flow
-  pub table-kept : table′ ≡ table
+  pub kept : after ≡ before
 
 -- What a call that takes branch b out then leaves.
-pub record Takes (B : Book) (b : ℕ) (sights : List Sight) (bs′ : List ℕ) (table′ : List ℕ) (r : Answer) : Type 0 where
+pub record Takes (B : Book) (b : ℕ) (sights : List Sight) (before after : Lent) (r : Answer) : Type 0 where
   pub answer : Said r 0 0 noGroup
-  pub book-is : bs′ ≡ setBit (encode B) (statusBit (buses B) b) 0
+  pub book-is : after .book ≡ setBit (encode B) (statusBit (buses B) b) 0
   pub one-each : length sights ≡ count B
-  pub records : (k : ℕ) → k < count B → take 20 (recordAt table′ k) ≡ sightBytes (getD sights k out)
+  pub records : (k : ℕ) → k < count B → take 20 (recordAt (after .table) k) ≡ sightBytes (getD sights k out)
 
 pub record Leaves (number : ℕ) (output left : List ℤ) (r : Answer) : Type 0 where
   pub answer : Said r number 0 noGroup
   pub output-is : left ≡ output
 
 -- Any result that the promise allows on the encoded book, lent enough space, is as the row says.
-abbrev pub Screens : Book → (List ℤ → List ℕ → List ℤ → List ℕ → Answer → Type 0) → Type 0
+abbrev pub Screens : Book → (Lent → Lent → Answer → Type 0) → Type 0
 Screens b says =
-    (flow : List ℤ) (table : List ℕ) (flow′ : List ℤ) (table′ : List ℕ) (r : Answer) → count b ≤ length flow → 52 * count b ≤ length table
-    → ScreenEnds (encode b) flow table flow′ table′ r → says flow table flow′ table′ r
+    (flow : List ℤ) (table : List ℕ) (after : Lent) (r : Answer) → count b ≤ length flow → 52 * count b ≤ length table
+    → ScreenEnds (lent (encode b) flow table) after r → says (lent (encode b) flow table) after r
 
 -- The same of a call on what a run left of that book.
-abbrev pub Calls : Book → ℕ → (List ℤ → List ℕ → List ℕ → List ℤ → List ℕ → Answer → Type 0) → Type 0
+abbrev pub Calls : Book → ℕ → (Lent → Lent → Answer → Type 0) → Type 0
 Calls B b says =
-    (flow : List ℤ) (table : List ℕ) (bs′ : List ℕ) (flow′ : List ℤ) (table′ : List ℕ) (r : Answer) → Run (encode B) flow table
-    → TakeEnds (encode B) flow table b bs′ flow′ table′ r → says flow table bs′ flow′ table′ r
+    (flow : List ℤ) (table : List ℕ) (after : Lent) (r : Answer) → Run (lent (encode B) flow table)
+    → TakeEnds b (lent (encode B) flow table) after r → says (lent (encode B) flow table) after r
 
 abbrev pub Holds : Row → Type 0
 Holds (shows b sights) = Screens b (Shows b sights)
 Holds (refuses b v group) = Screens b (Refuses v group)
-Holds (takes b k sights) = Calls b k (λ flow table bs′ flow′ table′ r. Takes b k sights bs′ table′ r)
-Holds (keeps b k v group) = Calls b k (λ flow table bs′ flow′ table′ r. (bs′ ≡ encode b) × Refuses v group flow table flow′ table′ r)
-Holds (meters R lent number output) = (left : List ℤ) (r : Answer) → Metered R lent left r → Leaves number output left r
+Holds (takes b k sights) = Calls b k (Takes b k sights)
+Holds (keeps b k v group) = Calls b k (Refuses v group)
+Holds (meters R space number output) = (left : List ℤ) (r : Answer) → Metered R space left r → Leaves number output left r

@@ -2,6 +2,7 @@
 use mathlib.Core.List.{List, [], _∷_}
 use Prim.Native.Nat.{ℕ}
 use lib.IntN.{ℤ, pos, negℤ}
+use Rattle.quantity.specs.Rating.{inKva}
 use Rattle.layout.specs.declared.Branch.{Branch}
 use Rattle.layout.specs.Book.{Book}
 use Rattle.meters.specs.Registers.{registers}
@@ -11,7 +12,7 @@ abbrev pub minus : ℕ → ℤ
 minus n = negℤ (pos n)
 
 abbrev pub joins : ℕ → ℕ → ℕ → ℕ → Branch
-joins first second kva status = record { first = first; second = second; kva = kva; status = status }
+joins first second kva status = record { first = first; second = second; kva = inKva kva; status = status }
 
 -- The triangle: its power factor, the kVA of 1-2, the status of branches 0 and 1.
 abbrev pub triangle : ℕ → ℕ → ℕ → ℕ → Book

@@ -3,13 +3,13 @@ use mathlib.Core.Path.{_≡_, refl, sym, ap, _∙_}
 use mathlib.Core.Bool.{Bool, true, false, true≢false, false≢true}
 use Prim.Native.Nat.{ℕ, zero, suc, _+_, _≤_, _<_}
 use native.Mathlib.Omega.{arith}
-use Rattle.rows.specs.Sum.{Group, all, pick, over}
+use Rattle.rows.specs.Sum.{Group, all, pick, over, differ}
 use Rattle.rows.proofs.Sum.{over-zero, over-add, over-same, over-ends, pick-part, over-all, over-term, over-tight, below, equal, above, side}
-use Rattle.grid.specs.Net.{Net, Ends, differ, crosses, gains, loads}
-use Rattle.grid.specs.Flow.{Flow, Within, at-end, leaves, arrives, Balanced, Closed}
-use Rattle.grid.specs.Reach.{here, onward, Reached, Spare, along, against, Surplus}
-use Rattle.grid.specs.Excess.{Exceeds, AtMost, Smallest}
-use Rattle.grid.proofs.Reach.{reach-within}
+use Rattle.grid.proofs.Net.{Net, EndsThere, crosses, gains, loads}
+use Rattle.grid.proofs.Flow.{Flow, Within, at-end, leaves, arrives, Balanced, Closed}
+use Rattle.grid.proofs.ReachBySteps.{here, onward, Reached, Roomy, along, against, Surplus}
+use Rattle.grid.proofs.Excess.{Exceeds, AtMost, Smallest}
+use Rattle.grid.proofs.ReachWithin.{reach-within}
 
 -- What leaves the buses of S, and what arrives there, summed over branches.
 abbrev pub outward : Net → Flow → Group → ℕ
@@ -19,7 +19,7 @@ abbrev pub inward : Net → Flow → Group → ℕ
 inward N f S = over (N .branches) (λ k. S (N .second k)) (f .ahead) + over (N .branches) (λ k. S (N .first k)) (f .back)
 
 -- The balance of a group.
-pub whole : (N : Net) (f : Flow) (l d : ℕ → ℕ) → Ends N → Balanced N f l d → (S : Group) → gains N S + inward N f S + over (N .buses) S d ≡ loads N S + outward N f S + over (N .buses) S l
+pub whole : (N : Net) (f : Flow) (l d : ℕ → ℕ) → EndsThere N → Balanced N f l d → (S : Group) → gains N S + inward N f S + over (N .buses) S d ≡ loads N S + outward N f S + over (N .buses) S l
 whole N f l d e b S =
     let n = N .buses in
     let at : over n S (λ i. N .gain i + arrives N f i + d i) ≡ over n S (λ i. N .load i + leaves N f i + l i) = over-same n S S _ _ (λ i u. ap (pick (S i)) (b .bus i u)) in
@@ -89,7 +89,7 @@ module _ (N : Net) (f : Flow) (S : Group) where
 
 -- What the theorems assume of a flow.
 pub record Settled (N : Net) (f : Flow) (l d : ℕ → ℕ) : Type 0 where
-  pub ends : Ends N
+  pub ends : EndsThere N
   pub within : Within N f
   pub balanced : Balanced N f l d
 
@@ -100,7 +100,7 @@ pub record Tight (N : Net) (f : Flow) (l d : ℕ → ℕ) (R : Group) : Type 0 w
   pub served : (i : ℕ) → i < N .buses → R i ≡ true → d i ≡ 0
 
 -- No step over spare capacity leaves a closed group.
-closed-keeps : (N : Net) (f : Flow) (R : Group) → Closed N f R → (u v : ℕ) → Spare N f u v → R u ≡ true → R v ≡ true
+closed-keeps : (N : Net) (f : Flow) (R : Group) → Closed N f R → (u v : ℕ) → Roomy N f u v → R u ≡ true → R v ≡ true
 closed-keeps N f R c u v (along k b p q g) r = go (R v) refl
   where
     go : (t : Bool) → R v ≡ t → R v ≡ true
@@ -113,7 +113,7 @@ closed-keeps N f R c u v (against k b p q g) r = go (R v) refl
     go false e = absurd (omega (arith, c .out-back k b (rw q e) (rw p r)))
 
 -- A group with the reached buses and no others is closed.
-pub reached-closed : (N : Net) (f : Flow) (start : ℕ → Type 0) (R : Group) → Ends N → Within N f → Reached (Spare N f) start (N .buses) R → Closed N f R
+pub reached-closed : (N : Net) (f : Flow) (start : ℕ → Type 0) (R : Group) → EndsThere N → Within N f → Reached (Roomy N f) start (N .buses) R → Closed N f R
 reached-closed N f start R e w r = record {
   out-ahead = λ k u p q. elim (side (f .ahead k) (f .back k + N .limit k)) [
     | below g ↦ absurd (true≢false (sym (r .complete _ (onward (r .sound _ (e .first-in k u) p) (along k u refl refl g))) ∙ q))
@@ -173,7 +173,7 @@ module _ (N : Net) (f : Flow) (l d : ℕ → ℕ) (w : Settled N f l d) where
       none false x h p = absurd (false≢true p)
 
   -- The group that is reached from the surplus, if no bus in it has a deficit left, is the smallest of those with the largest excess.
-  pub smallest : (R : Group) → Reached (Spare N f) (Surplus (N .buses) l) (N .buses) R → ((i : ℕ) → i < N .buses → R i ≡ true → d i ≡ 0) → Smallest N R (over (N .buses) all l)
+  pub smallest : (R : Group) → Reached (Roomy N f) (Surplus (N .buses) l) (N .buses) R → ((i : ℕ) → i < N .buses → R i ≡ true → d i ≡ 0) → Smallest N R (over (N .buses) all l)
   smallest R r z =
       let n = N .buses in
       let c = reached-closed N f (Surplus (N .buses) l) R (w .ends) (w .within) r in

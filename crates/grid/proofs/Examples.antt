@@ -7,9 +7,9 @@ use Prim.Native.Nat.{ℕ}
 use native.Mathlib.Omega.{arith}
 use lib.ListN.{getD}
 use Rattle.rows.specs.Row.{nth, every}
-use Rattle.rows.specs.Sum.{Group, over}
-use Rattle.grid.specs.Net.{Net, crosses, without}
-use Rattle.grid.specs.Excess.{any, SmallestOf, Smallest}
+use Rattle.rows.specs.Sum.{Group, any, over}
+use Rattle.grid.proofs.Net.{Net, crosses, without}
+use Rattle.grid.proofs.Excess.{SmallestOf, Smallest}
 use Rattle.grid.proofs.Without.{ends-without}
 use Rattle.grid.proofs.Tests.{_&_, _⇒_, everyGroup}
 use Rattle.grid.proofs.Trial.{any-decided, crosses-decided, endsTest, ends-sound, smallestTest, smallest-sound}

@@ -1,7 +1,10 @@
-pub mod Reach
+pub mod Net
+pub mod Flow
+pub mod ReachBySteps
+pub mod Excess
+pub mod ReachWithin
 pub mod Cut
-pub mod Unique
-pub mod Reading
+pub mod OneSmallestGroup
 pub mod Without
 pub mod Tests
 pub mod Trial

@@ -6,11 +6,11 @@ use native.Mathlib.Omega.{arith}
 use borrow.Author.Tests.{leb-true, ltb-true, eqb-true, eq-eqb}
 use lib.Dec.{leb, ltb, eqb}
 use Rattle.rows.specs.Row.{every}
-use Rattle.rows.specs.Sum.{Group, pick}
+use Rattle.rows.specs.Sum.{Group, any, pick, differ}
 use Rattle.rows.proofs.Row.{every-at}
 use Rattle.rows.proofs.Sum.{over-same}
-use Rattle.grid.specs.Net.{Net, Ends, differ, crosses, gains, loads, ratings}
-use Rattle.grid.specs.Excess.{Exceeds, AtMost, SmallestOf, any}
+use Rattle.grid.proofs.Net.{Net, EndsThere, crosses, gains, loads, ratings}
+use Rattle.grid.proofs.Excess.{Exceeds, AtMost, SmallestOf}
 use Rattle.grid.proofs.Tests.{_&_, _⇒_, and-left, and-right, imply, everyGroup, cut, cut-same, every-group-sound}
 
 -- The same buses below the count.
@@ -24,17 +24,17 @@ Decided N among = (S R : Group) → Alike N S R → among S ≡ among R
 pub any-decided : (N : Net) → Decided N any
 any-decided N S R h = refl
 
-pub crosses-alike : (N : Net) → Ends N → (S R : Group) → Alike N S R → (k : ℕ) → k < N .branches → crosses N S k ≡ crosses N R k
+pub crosses-alike : (N : Net) → EndsThere N → (S R : Group) → Alike N S R → (k : ℕ) → k < N .branches → crosses N S k ≡ crosses N R k
 crosses-alike N e S R h k u = ap₂ differ (h _ (e .first-in k u)) (h _ (e .second-in k u))
 
 -- The groups with exactly one end of branch b.
-pub crosses-decided : (N : Net) → Ends N → (b : ℕ) → b < N .branches → Decided N (λ S. crosses N S b)
+pub crosses-decided : (N : Net) → EndsThere N → (b : ℕ) → b < N .branches → Decided N (λ S. crosses N S b)
 crosses-decided N e b u S R h = crosses-alike N e S R h b u
 
 unfoldable pub endsTest : Net → Bool
 endsTest N = every (N .branches) (λ k. ltb (N .first k) (N .buses) & ltb (N .second k) (N .buses))
 
-pub ends-sound : (N : Net) → endsTest N ≡ true → Ends N
+pub ends-sound : (N : Net) → endsTest N ≡ true → EndsThere N
 unfolding endsTest
 ends-sound N t =
     let q = every-at _ (N .branches) t in
@@ -57,7 +57,7 @@ mostTest N among v = everyGroup (N .buses) (λ R. among R ⇒ mostAt N v R)
 unfoldable pub smallestTest : Net → (Group → Bool) → Group → ℕ → Bool
 smallestTest N among S v = among S & exactAt N v S & everyGroup (N .buses) (λ R. among R ⇒ mostAt N v R & (exactAt N v R ⇒ inside (N .buses) S R))
 
-module _ (N : Net) (e : Ends N) (among : Group → Bool) (decided : Decided N among) where
+module _ (N : Net) (e : EndsThere N) (among : Group → Bool) (decided : Decided N among) where
   -- a group, and the same cut off at the count
   module _ (R : Group) where
     alike : Alike N (cut (N .buses) R) R

@@ -57,13 +57,13 @@ sound-branch n x e =
     let p₁ = past-fault (leb n (x .first)) 1 _ (omega arith) e in
     let p₂ = past-fault (leb n (x .second)) 2 _ (omega arith) (p₁ .1) in
     let p₃ = past-fault (eqb (x .first) (x .second)) 2 _ (omega arith) (p₂ .1) in
-    let p₄ = past-fault (ltb 1000000 (x .kva)) 3 _ (omega arith) (p₃ .1) in
+    let p₄ = past-fault (ltb 1000000 (x .kva .0)) 3 _ (omega arith) (p₃ .1) in
     let p₅ = past-fault (ltb 1 (x .status)) 4 0 (omega arith) (p₄ .1) in
     record {
       first-there = leb-false n (x .first) (p₁ .0);
       second-there = leb-false n (x .second) (p₂ .0);
       apart = eqb-false (x .first) (x .second) (p₃ .0);
-      rating = ltb-false 1000000 (x .kva) (p₄ .0);
+      rating = ltb-false 1000000 (x .kva .0) (p₄ .0);
       flag = ltb-false 1 (x .status) (p₅ .0);
     }
 
@@ -74,7 +74,7 @@ branch-sound n x g =
       lt-leb n (x .first) (g .first-there),
       lt-leb n (x .second) (g .second-there),
       ne-eqb (x .first) (x .second) (g .apart),
-      le-ltb 1000000 (x .kva) (g .rating),
+      le-ltb 1000000 (x .kva .0) (g .rating),
       le-ltb 1 (x .status) (g .flag),
     )
 

@@ -8,7 +8,7 @@ use lib.ListN.{length, replicate, length-replicate}
 use Rattle.rows.specs.Bit.{bitAt}
 use Rattle.bits.specs.Field.{Bytes, field}
 use Rattle.bits.specs.Fields.{reads, puts, Fit, item, putItems}
-use Rattle.bits.proofs.Bits.{ext-bits, bit-past, bit-zeros, bytes-zeros, zero-field}
+use Rattle.bits.proofs.ReadAsPut.{ext-bits, bit-past, bit-zeros, bytes-zeros, zero-field}
 use Rattle.bits.proofs.Fields.{length-puts, bytes-puts, puts-after, reads-same, reads-puts, puts-reads, length-items, bytes-items, items-before, items-after, item-put, items-same, items-bits}
 use Rattle.layout.specs.Layout.{headWidths, busWidths, branchWidths, busStart, branchStart, bitsFor, bytesFor, packed}
 

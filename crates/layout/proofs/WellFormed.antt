@@ -5,7 +5,7 @@ use Prim.Native.Nat.{ℕ, _<_}
 use native.Mathlib.Omega.{arith}
 use lib.IntN.{ℤ, pos}
 use Rattle.rows.specs.Row.{nth}
-use Rattle.rows.specs.declared.Outcome.the-variants.{Accepted}
+use Rattle.answer.specs.declared.Outcome.the-variants.{Accepted}
 use Rattle.rows.specs.Sum.{all, over, sum}
 use Rattle.rows.proofs.Row.{length-upTo, getD-upTo}
 use Rattle.quantity.specs.Signed.{posPart, negPart}
@@ -14,8 +14,8 @@ use Rattle.layout.specs.Book.{Book, buses, count, injection, branch, noB
 use Rattle.layout.specs.Layout.{busesIn, branchesIn, factorIn, busAt, injectionAt, branchAt, bookOf}
 use Rattle.layout.specs.Check.{checkOf, decode, book}
 use Rattle.layout.proofs.Faults.{sound-bus, sound-branch}
-use Rattle.layout.proofs.Signs.{size-of}
-use Rattle.layout.proofs.Accept.{Valid, accepted-valid, decoded}
+use Rattle.layout.proofs.SignAndSize.{size-of}
+use Rattle.layout.proofs.AcceptedWhere.{Valid, accepted-valid, decoded}
 
 -- What enters is what leaves exactly where the injections sum to 0.
 pub balance-sum : (n : ℕ) (h : ℕ → ℤ) → over n all (λ k. posPart (h k)) ≡ over n all (λ k. negPart (h k)) → sum n all h ≡ pos 0

@@ -7,6 +7,7 @@ use lib.IntN.{ℤ, pos}
 use lib.ListN.{length, getD, set}
 use Rattle.rows.specs.Sum.{all, sum}
 use Rattle.quantity.specs.Signed.{posPart, negPart}
+use Rattle.quantity.specs.Rating.{inKva}
 use Rattle.layout.specs.declared.Branch.{Branch}
 
 -- The power factor in thousandths, the injections in kW, the branches.
@@ -26,7 +27,7 @@ abbrev pub injection : Book → ℕ → ℤ
 injection b k = getD (b .injections) k (pos 0)
 
 abbrev pub noBranch : Branch
-noBranch = record { first = 0; second = 0; kva = 0; status = 0 }
+noBranch = record { first = 0; second = 0; kva = inKva 0; status = 0 }
 
 abbrev pub branch : Book → ℕ → Branch
 branch b k = getD (b .branches) k noBranch
@@ -46,7 +47,7 @@ pub record GoodBranch (n : ℕ) (x : Branch) : Type 0 where
   pub first-there : x .first < n
   pub second-there : x .second < n
   pub apart : x .first ≢ x .second
-  pub rating : x .kva ≤ 1000000
+  pub rating : x .kva .0 ≤ 1000000
   pub flag : x .status ≤ 1
 
 pub record WellFormed (b : Book) : Type 0 where

@@ -1,15 +1,15 @@
 -- Refusals 1 to 7 of a book in document 01's order, and what a book decodes to.
 use mathlib.Core.Bool.{Bool, not, _||_}
-use mathlib.Core.List.{List}
+use mathlib.Core.List.{List, [], _∷_}
 use Prim.Native.Nat.{ℕ}
 use lib.Dec.{ltb, eqb}
 use lib.IntN.{ℤ}
 use lib.ListN.{length}
 use Rattle.rows.specs.Row.{nth}
 use Rattle.rows.specs.Sum.{all, over}
-use Rattle.rows.specs.declared.Outcome.{Outcome}
-use Rattle.rows.specs.declared.Outcome.the-variants.{Accepted, Refused, Overloaded}
-use Rattle.rows.specs.Answer.{refusal, refuseIf, andThen}
+use Rattle.answer.specs.declared.Outcome.{Outcome}
+use Rattle.answer.specs.declared.Outcome.the-variants.{Accepted, Refused, Overloaded}
+use Rattle.answer.specs.Answer.{refusal, refuseIf, andThen}
 use Rattle.quantity.specs.Signed.{posPart, negPart}
 use Rattle.layout.specs.declared.Fault.{Fault}
 use Rattle.layout.specs.declared.Fault.the-variants.{Sound, At}
@@ -54,6 +54,9 @@ bodyCheck bs =
 
 unfoldable pub checkOf : List ℕ → Outcome
 checkOf bs = andThen (headCheck bs) (bodyCheck bs)
+
+abbrev pub checkNumbers : List ℕ
+checkNumbers = 1 ∷ 2 ∷ 3 ∷ 4 ∷ 5 ∷ 6 ∷ 7 ∷ []
 
 -- A book, or the number of the refusal.
 pub data Decoded : Type 0 where

@@ -21,7 +21,7 @@ branchFault n x =
     faultIf (leb n (x .first)) 1
     (faultIf (leb n (x .second)) 2
     (faultIf (eqb (x .first) (x .second)) 2
-    (faultIf (ltb 1000000 (x .kva)) 3
+    (faultIf (ltb 1000000 (x .kva .0)) 3
     (faultIf (ltb 1 (x .status)) 4
     0))))
 

@@ -7,9 +7,9 @@ use lib.ListN.{replicate}
 use Rattle.rows.specs.Row.{nth, upTo}
 use Rattle.rows.specs.Sum.{pick}
 use Rattle.quantity.specs.Signed.{isNeg, ofSize}
+use Rattle.quantity.specs.Rating.{inKva}
 use Rattle.bits.specs.Field.{field}
 use Rattle.bits.specs.Fields.{total, reads, puts, place, item, putItems}
-use Rattle.layout.specs.declared.Bus.{Bus}
 use Rattle.layout.specs.declared.Branch.{Branch}
 use Rattle.layout.specs.Book.{Book, buses, count, injection, branch, size}
 
@@ -58,15 +58,12 @@ spareIn bs = nth (reads bs 0 headWidths) 3
 abbrev pub busAt : List ℕ → ℕ → List ℕ
 busAt bs k = item busWidths bs busStart k
 
--- A bus and a branch of their fields.
-abbrev pub busFrom : List ℕ → Bus
-busFrom vs = record { sign = nth vs 0; size = nth vs 1 }
-
 abbrev pub injectionOf : List ℕ → ℤ
 injectionOf vs = ofSize (eqb (nth vs 0) 1) (nth vs 1)
 
+-- A branch of its fields.
 abbrev pub branchOf : List ℕ → Branch
-branchOf vs = record { first = nth vs 0; second = nth vs 1; kva = nth vs 2; status = nth vs 3 }
+branchOf vs = record { first = nth vs 0; second = nth vs 1; kva = inKva (nth vs 2); status = nth vs 3 }
 
 abbrev pub injectionAt : List ℕ → ℕ → ℤ
 injectionAt bs k = injectionOf (busAt bs k)
@@ -98,7 +95,7 @@ abbrev pub busValues : ℤ → List ℕ
 busValues z = pick (isNeg z) 1 ∷ size z ∷ []
 
 abbrev pub branchValues : Branch → List ℕ
-branchValues x = x .first ∷ x .second ∷ x .kva ∷ x .status ∷ []
+branchValues x = x .first ∷ x .second ∷ x .kva .0 ∷ x .status ∷ []
 
 -- The bytes with these fields of the header, of n buses and of m branches.
 unfoldable pub packed : List ℕ → (ℕ → List ℕ) → ℕ → (ℕ → List ℕ) → ℕ → List ℕ
@@ -115,4 +112,4 @@ encode b = packed (headValues b) (λ k. busValues (injection b k)) (buses b) (λ
 -- The table beside the book: four numbers a branch.
 abbrev pub tableOf : List Branch → List ℕ
 tableOf [] = []
-tableOf (x ∷ xs) = x .first ∷ x .second ∷ x .kva ∷ x .status ∷ tableOf xs
+tableOf (x ∷ xs) = x .first ∷ x .second ∷ x .kva .0 ∷ x .status ∷ tableOf xs

@@ -2,5 +2,4 @@ pub mod Book
 pub mod Fault
 pub mod Layout
 pub mod Check
-pub mod Lent
-pub mod Examples
+pub mod Inside

@@ -7,7 +7,8 @@ use native.Mathlib.Nat.{mul-suc}
 use native.Mathlib.Numerals.{add-one}
 use lib.ListN.{length, getD, take, set, length-set, length-append}
 use lib.Seq.{take-suc, take-suc-set, take-length}
-use Rattle.line.specs.Text.{Added, joined}
+use Rattle.line.specs.Text.{joined}
+use Rattle.line.specs.Inside.{Added}
 
 pub added-none : (l : List ℕ) (at : ℕ) → Added [] l at l at
 added-none l at = record { ends = omega arith; holds = sym (append-nil (take at l)) }

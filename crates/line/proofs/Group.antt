@@ -12,10 +12,11 @@ use Rattle.rows.specs.Row.{nth}
 use Rattle.rows.specs.Bit.{has}
 use Rattle.rows.specs.Sum.{pick}
 use Rattle.listing.specs.declared.Members.{Members}
-use Rattle.listing.specs.Members.{Listed}
-use Rattle.line.specs.Text.{Added, nextOf, joined}
+use Rattle.listing.specs.Inside.{Listed}
+use Rattle.line.specs.Text.{nextOf, joined}
+use Rattle.line.specs.Inside.{Added}
 use Rattle.line.proofs.Adding.{Joining, joining-more, joined-all, added-none, added-then, added-same}
-use Rattle.line.proofs.Digits.{length-next}
+use Rattle.line.proofs.FewestDigits.{length-next}
 use Rattle.line.specs.AnswerText.{busText, groupText}
 
 -- Bus i where its flag is 1.

@@ -1,3 +1,3 @@
 pub mod Adding
-pub mod Digits
+pub mod FewestDigits
 pub mod Group

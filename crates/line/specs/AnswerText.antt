@@ -2,8 +2,8 @@
 use mathlib.Core.Bool.{cond}
 use mathlib.Core.List.{List, [], _++_}
 use Prim.Native.Nat.{ℕ}
-use Rattle.rows.specs.declared.Answer.{Answer}
-use Rattle.rows.specs.Answer.{numberOf, shortageOf}
+use Rattle.answer.specs.declared.Answer.{Answer}
+use Rattle.answer.specs.Answer.{numberOf, shortageOf}
 use Rattle.rows.specs.Bit.{has}
 use Rattle.listing.specs.Members.{size}
 use Rattle.line.specs.Text.{nextOf, joined}

@@ -1,11 +1,10 @@
--- The text of numbers and bytes, and what adding a text to a line leaves.
-use mathlib.Core.Path.{_≡_}
+-- The text of numbers and bytes.
 use mathlib.Core.Bool.{cond}
 use mathlib.Core.List.{List, [], _∷_, _++_}
-use Prim.Native.Nat.{ℕ, zero, suc, _+_, _/_, _%_}
+use Prim.Native.Nat.{ℕ, zero, suc, _/_, _%_}
 use lib.Dec.{ltb, eqb}
 use lib.IntN.{ℤ, pos}
-use lib.ListN.{length, getD, take}
+use lib.ListN.{length, getD}
 use Rattle.rows.specs.Row.{nth}
 use Rattle.quantity.specs.Signed.{posPart, negPart}
 use Rattle.io.specs.Digits.{glyph, digits}
@@ -43,8 +42,3 @@ signedsOf row = joined (length row) (λ i. 32 ∷ signedOf (getD row i (pos 0)))
 
 abbrev pub hexesOf : List ℕ → List ℕ
 hexesOf bytes = joined (length bytes) (λ i. hexOf (nth bytes i))
-
--- Lent bytes that held a line of so many now hold it with the text after it.
-pub record Added (text before : List ℕ) (at : ℕ) (after : List ℕ) (r : ℕ) : Type 0 where
-  pub ends : r ≡ at + length text
-  pub holds : take r after ≡ take at before ++ text

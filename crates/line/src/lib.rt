@@ -2,13 +2,14 @@
 ghost use mathlib.Core.List.{[], _∷_};
 ghost use Prim.Native.Nat.{_+_, _*_, _≤_};
 ghost use lib.ListN.{length};
-ghost use Rattle.line.specs.Text.{Added, decimalOf, signedOf, hexOf, nextOf, numbersOf, signedsOf, hexesOf};
+ghost use Rattle.line.specs.Text.{decimalOf, signedOf, hexOf, nextOf, numbersOf, signedsOf, hexesOf};
+ghost use Rattle.line.specs.Inside.{Added};
 
-mod answer;
+mod answers;
 mod writing;
 
-pub use answer::put_answer;
-pub use answer::put_group;
+pub use answers::put_answer;
+pub use answers::put_group;
 pub use writing::write_line;
 
 fn put_byte(out: &mut [u8], at: usize, byte: u8) -> usize

@@ -2,7 +2,7 @@
 ghost use mathlib.Core.List.{[], _∷_};
 ghost use Prim.Native.Nat.{_+_, _≤_};
 ghost use lib.ListN.{length};
-ghost use Rattle.line.specs.Text.{Added};
+ghost use Rattle.line.specs.Inside.{Added};
 use crate::put;
 use libc::STDOUT_FILENO;
 

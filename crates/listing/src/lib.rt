@@ -1,5 +1,5 @@
 // The buses of a group, as they are listed: unpacked into 128 numbers, and counted.
-ghost use Rattle.listing.specs.Members.{Listed};
+ghost use Rattle.listing.specs.Inside.{Listed};
 
 // `flags` has 1 for a bus of the group and 0 for any other; `count` is how many there are.
 pub struct Members {

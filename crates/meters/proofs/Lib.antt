@@ -1,4 +1,5 @@
-pub mod Adding
+pub mod TotalsSoFar
 pub mod Filling
-pub mod Judging
-pub mod Laws
+pub mod Given
+pub mod MeterAnswers
+pub mod SumsToZero

@@ -1,13 +1,13 @@
 -- What the functions inside ask for and say; nothing here is part of the promise.
 use mathlib.Core.Path.{_≡_}
-use mathlib.Core.Bool.{Bool, true, false}
+use mathlib.Core.Bool.{cond, false}
 use mathlib.Core.List.{List}
 use Prim.Native.Nat.{ℕ, _≤_}
 use lib.IntN.{ℤ}
 use lib.ListN.{length}
 use Rattle.rows.specs.Row.{some}
 use Rattle.rows.specs.Sum.{over}
-use Rattle.meters.specs.Registers.{Registers, buses, imported, exported, others, metered, choose, tooFar}
+use Rattle.meters.specs.Registers.{Registers, buses, imported, exported, others, metered, tooFar}
 use Rattle.meters.specs.declared.Totals.{Totals}
 use Rattle.meters.specs.declared.Totals.the-variants.{Sums, TooFar}
 
@@ -18,12 +18,8 @@ pub record Even (R : Registers) : Type 0 where
   pub fourth : length (R .export-end) ≡ buses R
   pub few : buses R ≤ 128
 
-abbrev pub pickTotals : Bool → Totals → Totals → Totals
-pickTotals true a b = a
-pickTotals false a b = b
-
 unfoldable pub totalsOf : Registers → Totals
-totalsOf R = pickTotals (some (buses R) (tooFar R)) TooFar (Sums (over (buses R) (others R) (imported R)) (over (buses R) (others R) (exported R)))
+totalsOf R = cond (some (buses R) (tooFar R)) TooFar (Sums (over (buses R) (others R) (imported R)) (over (buses R) (others R) (exported R)))
 
 -- What filling asks for: room for every bus, and no advance too far.
 pub record Ready (R : Registers) (out : List ℤ) : Type 0 where
@@ -33,4 +29,4 @@ pub record Ready (R : Registers) (out : List ℤ) : Type 0 where
 
 -- The injections, `own` being the supply's.
 abbrev pub withSupply : Registers → ℤ → ℕ → ℤ
-withSupply R own i = choose (others R i) (metered R i) own
+withSupply R own i = cond (others R i) (metered R i) own

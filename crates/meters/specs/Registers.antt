@@ -1,5 +1,5 @@
 -- Injections from registers, in the words of document 01.
-use mathlib.Core.Bool.{Bool, true, false, not, _&&_, _||_}
+use mathlib.Core.Bool.{Bool, cond, not, _&&_, _||_}
 use mathlib.Core.List.{List}
 use Prim.Native.Nat.{ℕ}
 use lib.Dec.{eqb, ltb, leb}
@@ -7,9 +7,9 @@ use lib.IntN.{ℤ, pos, negℤ, natAbs, _-ℤ_}
 use lib.ListN.{length}
 use Rattle.rows.specs.Row.{nth, some}
 use Rattle.rows.specs.Sum.{Group, sum}
-use Rattle.rows.specs.Answer.{refuseIf, andThen}
-use Rattle.rows.specs.declared.Outcome.{Outcome}
-use Rattle.rows.specs.declared.Outcome.the-variants.{Accepted}
+use Rattle.answer.specs.Answer.{refuseIf, andThen}
+use Rattle.answer.specs.declared.Outcome.{Outcome}
+use Rattle.answer.specs.declared.Outcome.the-variants.{Accepted}
 use Rattle.quantity.specs.Register.{advance}
 
 -- Readings at the start and the end of the quarter hour, one a bus, and the number of the supply bus.
@@ -45,12 +45,8 @@ metered R i = pos (exported R i) -ℤ pos (imported R i)
 abbrev pub supplied : Registers → ℤ
 supplied R = negℤ (sum (buses R) (others R) (metered R))
 
-abbrev pub choose : Bool → ℤ → ℤ → ℤ
-choose true x y = x
-choose false x y = y
-
 abbrev pub injection : Registers → ℕ → ℤ
-injection R i = choose (others R i) (metered R i) (supplied R)
+injection R i = cond (others R i) (metered R i) (supplied R)
 
 -- 13: lists unequal, empty or above 128, or output shorter.
 abbrev pub shapeOf : ℕ → ℕ → ℕ → ℕ → ℕ → Outcome

@@ -5,12 +5,12 @@ ghost use Rattle.rows.specs.Row.{headed};
 ghost use Rattle.meters.specs.Registers.{registers, buses, shapeOf, imported, exported};
 ghost use Rattle.meters.specs.Inside.{Even, Ready, totalsOf, withSupply};
 ghost use Rattle.meters.specs.Promise.{Metered};
+use answer::Answer;
+use answer::Outcome;
+use answer::answer_with;
+use answer::refuse;
 use quantity::advanced;
 use quantity::difference;
-use rows::Answer;
-use rows::Outcome;
-use rows::answer_with;
-use rows::refuse;
 
 // A quarter hour's kW through a bus, out of the network and into it.
 struct Passed {

@@ -1,9 +1,4 @@
-pub mod Fitting
-pub mod Refreshing
-pub mod Judging
-pub mod Lending
-pub mod Leaving
-pub mod Clearing
-pub mod Shortlisting
 pub mod Checking
-pub mod Ending
+pub mod FlowLeft
+pub mod Shortlisting
+pub mod OutageEnds

@@ -1,11 +1,12 @@
--- The shortlist as the code tests it is that of the paper; so a refreshed table is an update.
-use mathlib.Core.Path.{_≡_, refl, sym, _∙_}
+-- The shortlist as the code tests it is that of the paper; so a table whose listed records were written anew is an update.
+use mathlib.Core.Path.{_≡_, refl, sym, ap, _∙_}
 use mathlib.Core.Bool.{Bool, true, false, not, _&&_, _||_, true≢false, false≢true}
 use mathlib.Core.List.{List}
 use mathlib.Core.Logic.{_⊎_, inl, inr}
-use Prim.Native.Nat.{ℕ, _≤_, _<_}
+use Prim.Native.Nat.{ℕ, _+_, _*_, _≤_, _<_}
 use native.Mathlib.Omega.{arith}
 use native.Mathlib.Decide.{ℕ-discrete}
+use borrow.Author.Count.{below-more}
 use borrow.Author.Tests.{eq-eqb, ne-eqb}
 use lib.Dec.{eqb}
 use lib.IntN.{ℤ}
@@ -14,13 +15,15 @@ use Rattle.rows.specs.Row.{nth, some}
 use Rattle.rows.proofs.Row.{some-at, some-never, or-true, and-false, both-true}
 use Rattle.rows.specs.Bit.{has, bitAt}
 use Rattle.bits.specs.Field.{setBit}
-use Rattle.bits.proofs.Bits.{bit-same, bit-other}
+use Rattle.bits.proofs.ReadAsPut.{length-setBit, bit-same, bit-other}
 use Rattle.verdict.specs.Case.{Case, on, Fits}
-use Rattle.verdict.specs.Record.{recordAt, verdictOf, names}
+use Rattle.verdict.specs.Record.{recordAt, verdictIn, names}
 use Rattle.verdict.specs.Update.{Shortlisted, not-served, not-carrying, is-touched, names-touched, Updated}
-use Rattle.record.specs.Bytes.{listed}
-use Rattle.screen.specs.State.{Differs, Changed}
-use Rattle.outage.specs.Shortlist.{listedIf, listedAt, judgedOf, Marked, Refreshed}
+use Rattle.state.specs.Call.{lent}
+use Rattle.record.specs.Inside.{listed}
+use Rattle.state.proofs.TrueRecords.{none, none-has}
+use Rattle.state.specs.Inside.{Differs, Changed, Rewriting, judgedOf}
+use Rattle.outage.specs.Inside.{listedIf, listedAt, Listing, Marked}
 use Rattle.outage.specs.Promise.{Judges}
 
 -- ---- The bits of touched branches.
@@ -42,6 +45,59 @@ marked {n} {a} {b} {k} {row} few u c =
     one j q there (yes e) = inl e
     one j q there (no m) = inr (c .named j (sym (there j m) ∙ q))
 
+-- ---- The test of one record.
+module _ (serving : Bool) (touched rec : List ℕ) (k : ℕ) where
+  pub by-service : serving ≡ false → true ≡ listedIf serving touched rec k
+  unfolding listedIf
+  by-service e = rw e refl
+
+  pub by-touch : serving ≡ true → has touched k ≡ true → true ≡ listedIf serving touched rec k
+  unfolding listedIf
+  by-touch e h = rw (e, h) refl
+
+  pub by-record : serving ≡ true → has touched k ≡ false → listed rec touched ≡ listedIf serving touched rec k
+  unfolding listedIf
+  by-record e h = rw (e, h) refl
+
+-- ---- The bits of the listed records, one after another.
+module _ (n : ℕ) (served : List Bool) (touched table : List ℕ) where
+  pub record Noting (row : List ℕ) (k : ℕ) : Type 0 where
+    pub few : n ≤ 256
+    pub room : 52 * n ≤ length table
+    pub upto : k ≤ n
+    pub long : length row ≡ 32
+    pub so-far : (j : ℕ) → j < k → has row j ≡ listedAt served touched table j
+    pub beyond : (j : ℕ) → k ≤ j → has row j ≡ false
+
+  pub noting-none : n ≤ 256 → 52 * n ≤ length table → Noting (none 32) 0
+  noting-none f r = record { few = f; room = r; upto = omega arith; long = refl; so-far = λ j u. absurd (omega arith); beyond = λ j u. none-has 32 j }
+
+  pub noting-set : {row rec : List ℕ} {k : ℕ} {t : Bool} → Noting row k → k < n → t ≡ listedIf (getD served k false) touched rec k → rec ≡ recordAt table k → t ≡ true → Noting (setBit row k 1) (k + 1)
+  noting-set {row} {rec} {k} c u i r e =
+      let here : has (setBit row k 1) k ≡ true = eq-eqb (bitAt (setBit row k 1) k) 1 (bit-same row k 1 (omega arith) (omega (arith, c .few, c .long))) in
+      let there : (j : ℕ) → (j ≡ k → ⊥) → has (setBit row k 1) j ≡ has row j = λ j q. rw (bit-other row k j 1 (omega arith) q) refl in
+      record {
+        few = c .few;
+        room = c .room;
+        upto = omega arith;
+        long = length-setBit row k 1 ∙ c .long;
+        so-far = below-more _ k (λ j v. there j (λ q. omega arith) ∙ c .so-far j v) (here ∙ sym e ∙ i ∙ ap (λ (x : List ℕ). listedIf (getD served k false) touched x k) r);
+        beyond = λ j v. there j (λ q. omega arith) ∙ c .beyond j (omega arith);
+      }
+
+  pub noting-skip : {row rec : List ℕ} {k : ℕ} {t : Bool} → Noting row k → k < n → t ≡ listedIf (getD served k false) touched rec k → rec ≡ recordAt table k → t ≡ false → Noting row (k + 1)
+  noting-skip {row} {rec} {k} c u i r e = record {
+    few = c .few;
+    room = c .room;
+    upto = omega arith;
+    long = c .long;
+    so-far = below-more _ k (c .so-far) (c .beyond k (omega arith) ∙ sym e ∙ i ∙ ap (λ (x : List ℕ). listedIf (getD served k false) touched x k) r);
+    beyond = λ j v. c .beyond j (omega arith);
+  }
+
+  pub noting-all : {row : List ℕ} {k : ℕ} → Noting row k → k ≡ n → Listing n served touched table row
+  noting-all {row} {k} c e = record { bit = λ j u. c .so-far j (omega arith) }
+
 -- ---- The test is the shortlist.
 module _ (C : Case) (served : List Bool) (touched : List ℕ) (T : ℕ → Type 0) (few : C .branches ≤ 256) (served-is : (k : ℕ) → getD served k false ≡ C .served k)
     (marks : (j : ℕ) → j < C .branches → T j → has touched j ≡ true) (marked-only : (j : ℕ) → has touched j ≡ true → (j < C .branches) × T j) (table : List ℕ) where
@@ -49,7 +105,7 @@ module _ (C : Case) (served : List Bool) (touched : List ℕ) (T : ℕ → Type 
   unfolding listedIf listed
   shortlisted-listed k u (not-served e) = rw (served-is k, e) refl
   shortlisted-listed k u (not-carrying n) =
-      rw (ne-eqb (verdictOf (recordAt table k)) 1 n) (or-two (not (getD served k false)) (has touched k) true refl)
+      rw (ne-eqb (verdictIn (recordAt table k)) 1 n) (or-two (not (getD served k false)) (has touched k) true refl)
     where
       or-two : (s t x : Bool) → x ≡ true → (s || (t || x)) ≡ true
       or-two true t x e = refl
@@ -57,7 +113,7 @@ module _ (C : Case) (served : List Bool) (touched : List ℕ) (T : ℕ → Type 
       or-two false false x e = e
   shortlisted-listed k u (is-touched t) = rw (marks k u t) (or-true (not (getD served k false)))
   shortlisted-listed k u (names-touched j v n t) =
-      or-all (not (getD served k false)) (has touched k) (not (eqb (verdictOf (recordAt table k)) 1))
+      or-all (not (getD served k false)) (has touched k) (not (eqb (verdictIn (recordAt table k)) 1))
       (some 256 (λ i. names (recordAt table k) i && has touched i))
       (some-at (λ i. names (recordAt table k) i && has touched i) 256 j (omega arith) (rw (n, marks j v t) refl))
     where
@@ -73,7 +129,7 @@ module _ (C : Case) (served : List Bool) (touched : List ℕ) (T : ℕ → Type 
   unlisted k u no-short = all-false _ _ _ _
       (by (not (getD served k false)) (λ e. no-short (not-served (sym (served-is k) ∙ turned _ e))))
       (by (has touched k) (λ e. no-short (is-touched (marked-only k e .1))))
-      (by (not (eqb (verdictOf (recordAt table k)) 1)) (λ e. no-short (not-carrying (λ q. true≢false (sym (eq-eqb _ _ q) ∙ turned _ e)))))
+      (by (not (eqb (verdictIn (recordAt table k)) 1)) (λ e. no-short (not-carrying (λ q. true≢false (sym (eq-eqb _ _ q) ∙ turned _ e)))))
       (some-never (λ j. names (recordAt table k) j && has touched j) 256 miss)
     where
       by : (t : Bool) → (t ≡ true → ⊥) → t ≡ false
@@ -93,24 +149,26 @@ module _ (C : Case) (served : List Bool) (touched : List ℕ) (T : ℕ → Type 
           let m = marked-only j (w .1) in
           no-short (names-touched j (m .0) (w .0) (m .1)))
 
-  pub updated : {flow flow′ : List ℤ} {table′ : List ℕ} → Fits C (C .limit) (on flow′) → Refreshed C (on flow′) served touched (C .branches) table table′
-      → length flow′ ≡ length flow → ((k : ℕ) → C .branches ≤ k → on flow′ k ≡ on flow k) → Updated C T flow table flow′ table′
-  updated {flow} {flow′} {table′} fits r long rest = record {
-    fits = fits;
-    rewritten = λ k u h. r .rewritten k u (shortlisted-listed k u h);
-    kept = λ k u h. r .kept k u (unlisted k u h);
-    beyond = record { flow-long = long; flow-rest = rest; table-long = r .long; table-rest = r .rest };
-  }
+  -- The bits of the shortlist.
+  module _ (bits : List ℕ) (shown : Listing (C .branches) served touched table bits) where
+    pub updated : {bs bs′ : List ℕ} {flow flow′ : List ℤ} {table′ : List ℕ} → Fits C (C .limit) (on flow′) → Rewriting C (on flow′) bits (C .branches) table table′
+        → length flow′ ≡ length flow → ((k : ℕ) → C .branches ≤ k → on flow′ k ≡ on flow k) → Updated C T (lent bs flow table) (lent bs′ flow′ table′)
+    updated fits r long rest = record {
+      fits = fits;
+      rewritten = λ k u h. r .rewritten k u (shown .bit k u ∙ shortlisted-listed k u h);
+      kept = λ k u h. r .kept k u (shown .bit k u ∙ unlisted k u h);
+      beyond = record { flow-long = long; flow-rest = rest; table-long = r .long; table-rest = r .rest };
+    }
 
-  -- The losses counted are those of shortlisted records in service.
-  pub judges : {n : ℕ} → n ≡ judgedOf served touched table (C .branches) → Judges C T table n
-  judges e = record {
-    judged = λ k. listedAt served touched table k && getD served k false;
-    if-listed = λ k u h s. rw (shortlisted-listed k u h, served-is k, s) refl;
-    if-not = λ k u h. off k u h (C .served k) refl;
-    count = e;
-  }
-    where
-      off : (k : ℕ) → k < C .branches → (Shortlisted C table T k → C .served k ≡ true → ⊥) → (s : Bool) → C .served k ≡ s → (listedAt served touched table k && getD served k false) ≡ false
-      off k u h true e = rw (unlisted k u (λ l. h l e)) refl
-      off k u h false e = rw (served-is k, e) (and-false (listedIf false touched table k))
+    -- The losses counted are those of shortlisted records in service.
+    pub judges : {n : ℕ} → n ≡ judgedOf served bits (C .branches) → Judges C T table n
+    judges e = record {
+      judged = λ k. has bits k && getD served k false;
+      if-listed = λ k u h s. rw (shown .bit k u, shortlisted-listed k u h, served-is k, s) refl;
+      if-not = λ k u h. off k u h (C .served k) refl;
+      count = e;
+    }
+      where
+        off : (k : ℕ) → k < C .branches → (Shortlisted C table T k → C .served k ≡ true → ⊥) → (s : Bool) → C .served k ≡ s → (has bits k && getD served k false) ≡ false
+        off k u h true e = rw (shown .bit k u, unlisted k u (λ l. h l e)) refl
+        off k u h false e = rw (served-is k, e) (and-false (has bits k))

@@ -1,3 +1,2 @@
-pub mod Fit
-pub mod Shortlist
 pub mod Promise
+pub mod Inside

@@ -1,25 +1,25 @@
 -- What `take_out` promises.
 use mathlib.Core.Path.{_≡_}
 use mathlib.Core.Bool.{Bool, true, false, not}
-use mathlib.Core.List.{List}
+use mathlib.Core.List.{List, [], _∷_}
 use Prim.Native.Nat.{ℕ, _<_}
 use lib.Dec.{leb}
 use lib.IntN.{ℤ, pos}
 use lib.ListN.{length}
-use Rattle.rows.specs.Answer.{bare, accepted, refused, refuseIf, andThen}
-use Rattle.rows.specs.declared.Outcome.{Outcome}
-use Rattle.rows.specs.declared.Outcome.the-variants.{Accepted}
-use Rattle.rows.specs.declared.Answer.{Answer}
+use Rattle.rows.specs.Sum.{over}
+use Rattle.answer.specs.Answer.{accepted, refuseIf, andThen}
+use Rattle.answer.specs.declared.Outcome.{Outcome}
+use Rattle.answer.specs.declared.Outcome.the-variants.{Accepted}
+use Rattle.answer.specs.declared.Answer.{Answer}
 use Rattle.bits.specs.Field.{setBit}
-use Rattle.layout.specs.Layout.{busesIn, branchesIn, statusBit, bookOf}
+use Rattle.layout.specs.Layout.{busesIn, branchesIn, statusBit}
 use Rattle.layout.specs.Check.{checkOf}
 use Rattle.verdict.specs.Case.{Case, out, on, Fits}
 use Rattle.verdict.specs.Record.{recordAt, names}
-use Rattle.verdict.specs.Update.{Shortlisted, Updated}
-use Rattle.rows.specs.Sum.{over}
+use Rattle.verdict.specs.Update.{Lent, Shortlisted, Updated}
+use Rattle.state.specs.Case.{caseIn}
+use Rattle.state.specs.Call.{lentCheck, Ends}
 use Rattle.outage.specs.declared.Taken.{Taken}
-use Rattle.screen.specs.Case.{caseOf}
-use Rattle.screen.specs.Promise.{screenCheck, Overloaded}
 
 -- Touched: the branch taken out, and each branch whose flow differs before and after.
 pub data Touched (f g : ℕ → ℤ) (b j : ℕ) : Type 0 where
@@ -30,53 +30,43 @@ pub data Touched (f g : ℕ → ℤ) (b j : ℕ) : Type 0 where
 abbrev pub Confined : Case → (ℕ → ℤ) → List ℕ → ℕ → (ℕ → ℤ) → Type 0
 Confined C f rec b g = (j : ℕ) → j < C .branches → (j ≡ b → ⊥) → names rec j ≡ false → g j ≡ f j
 
--- Refusals 1 to 8 as the screen's, then 9: no such branch; 10: already out.
+-- Refusals 1 to 8 as of every call, then 9: no such branch; 10: already out.
 unfoldable pub takeCheck : List ℕ → ℕ → ℕ → ℕ → Outcome
 takeCheck bs flows bytes b =
-    andThen (screenCheck bs flows bytes)
+    andThen (lentCheck bs flows bytes)
     (refuseIf (leb (branchesIn bs) b) 9
-    (refuseIf (not (caseOf (bookOf bs) .served b)) 10
+    (refuseIf (not (caseIn bs .served b)) 10
     Accepted))
 
+abbrev pub takeNumbers : List ℕ
+takeNumbers = 1 ∷ 2 ∷ 3 ∷ 4 ∷ 5 ∷ 6 ∷ 7 ∷ 8 ∷ 9 ∷ 10 ∷ []
+
 -- An accepted call: the one status bit, the flow and the shortlist.
-pub record TakenOut (bs : List ℕ) (flow : List ℤ) (table : List ℕ) (b : ℕ) (bs′ : List ℕ) (flow′ : List ℤ) (table′ : List ℕ) : Type 0 where
-  pub book-is : bs′ ≡ setBit bs (statusBit (busesIn bs) b) 0
-  pub book-accepted : checkOf bs′ ≡ Accepted
-  pub case-is : caseOf (bookOf bs′) ≡ out (caseOf (bookOf bs)) b
-  pub updated : Updated (out (caseOf (bookOf bs)) b) (Touched (on flow) (on flow′) b) flow table flow′ table′
-  pub idle : on flow b ≡ pos 0 → (j : ℕ) → j < caseOf (bookOf bs) .branches → on flow′ j ≡ on flow j
-  pub confined : (h : ℕ → ℤ) → Fits (out (caseOf (bookOf bs)) b) (caseOf (bookOf bs) .limit) h
-      → Confined (caseOf (bookOf bs)) (on flow) (recordAt table b) b h → Confined (caseOf (bookOf bs)) (on flow) (recordAt table b) b (on flow′)
+pub record TakenOut (b : ℕ) (before after : Lent) : Type 0 where
+  pub book-is : after .book ≡ setBit (before .book) (statusBit (busesIn (before .book)) b) 0
+  pub book-accepted : checkOf (after .book) ≡ Accepted
+  pub case-is : caseIn (after .book) ≡ out (caseIn (before .book)) b
+  pub updated : Updated (out (caseIn (before .book)) b) (Touched (on (before .flow)) (on (after .flow)) b) before after
+  -- if the branch's flow was 0, no flow changes
+  pub idle : on (before .flow) b ≡ pos 0 → (j : ℕ) → j < caseIn (before .book) .branches → on (after .flow) j ≡ on (before .flow) j
+  -- if some fitting flow is confined to the recorded reroute, the flow left is one of those
+  pub confined : (h : ℕ → ℤ) → Fits (out (caseIn (before .book)) b) (caseIn (before .book) .limit) h
+      → Confined (caseIn (before .book)) (on (before .flow)) (recordAt (before .table) b) b h
+      → Confined (caseIn (before .book)) (on (before .flow)) (recordAt (before .table) b) b (on (after .flow))
 
--- A refusal changes nothing lent.
-pub record Unchanged (bs : List ℕ) (flow : List ℤ) (table : List ℕ) (bs′ : List ℕ) (flow′ : List ℤ) (table′ : List ℕ) : Type 0 where
-  pub book-kept : bs′ ≡ bs
-  pub flow-kept : flow′ ≡ flow
-  pub table-kept : table′ ≡ table
+-- How the call ends: refused by its checks, with 11, with 12 by the base excess of the book without b, or accepted.
+abbrev pub TakeEnds : ℕ → Lent → Lent → Answer → Type 0
+TakeEnds b before after r =
+    Ends (takeCheck (before .book) (length (before .flow)) (length (before .table)) b)
+    (caseIn (before .book)) (out (caseIn (before .book)) b) (TakenOut b before after) before after r
 
-pub data TakeEnds (bs : List ℕ) (flow : List ℤ) (table : List ℕ) (b : ℕ) (bs′ : List ℕ) (flow′ : List ℤ) (table′ : List ℕ) (r : Answer) : Type 0 where
-  refuses : (takeCheck bs (length flow) (length table) b ≡ Accepted → ⊥) → r ≡ bare (takeCheck bs (length flow) (length table) b)
-      → Unchanged bs flow table bs′ flow′ table′ → TakeEnds bs flow table b bs′ flow′ table′ r
-  -- 11: the lent flow doesn't fit the book
-  unfit : takeCheck bs (length flow) (length table) b ≡ Accepted → (Fits (caseOf (bookOf bs)) (caseOf (bookOf bs) .limit) (on flow) → ⊥) → r ≡ refused 11
-      → Unchanged bs flow table bs′ flow′ table′ → TakeEnds bs flow table b bs′ flow′ table′ r
-  -- 12: the base excess of the changed book
-  overloads : takeCheck bs (length flow) (length table) b ≡ Accepted → Fits (caseOf (bookOf bs)) (caseOf (bookOf bs) .limit) (on flow)
-      → Overloaded (out (caseOf (bookOf bs)) b) r → Unchanged bs flow table bs′ flow′ table′ → TakeEnds bs flow table b bs′ flow′ table′ r
-  accepts : takeCheck bs (length flow) (length table) b ≡ Accepted → Fits (caseOf (bookOf bs)) (caseOf (bookOf bs) .limit) (on flow)
-      → r ≡ accepted → TakenOut bs flow table b bs′ flow′ table′ → TakeEnds bs flow table b bs′ flow′ table′ r
-
--- ---- The same call, with the losses that were judged on the way.
-abbrev pub answerOf : Taken → Answer
-answerOf r = record { outcome = r .outcome; group = r .group }
-
--- As many losses as there are records on the shortlist and in service.
+-- ---- The same call, with the losses that were judged on the way: as many as there are records on the shortlist and in service.
 pub record Judges (C : Case) (touched : ℕ → Type 0) (table : List ℕ) (n : ℕ) : Type 0 where
   pub judged : ℕ → Bool
   pub if-listed : (k : ℕ) → k < C .branches → Shortlisted C table touched k → C .served k ≡ true → judged k ≡ true
   pub if-not : (k : ℕ) → k < C .branches → (Shortlisted C table touched k → C .served k ≡ true → ⊥) → judged k ≡ false
   pub count : n ≡ over (C .branches) judged (λ k. 1)
 
-pub record TakeCounted (bs : List ℕ) (flow : List ℤ) (table : List ℕ) (b : ℕ) (bs′ : List ℕ) (flow′ : List ℤ) (table′ : List ℕ) (r : Taken) : Type 0 where
-  pub ends : TakeEnds bs flow table b bs′ flow′ table′ (answerOf r)
-  pub judges : answerOf r ≡ accepted → Judges (out (caseOf (bookOf bs)) b) (Touched (on flow) (on flow′) b) table (r .judged)
+pub record TakeCounted (b : ℕ) (before after : Lent) (r : Taken) : Type 0 where
+  pub ends : TakeEnds b before after (r .answer)
+  pub judges : r .answer ≡ accepted → Judges (out (caseIn (before .book)) b) (Touched (on (before .flow)) (on (after .flow)) b) (before .table) (r .judged)

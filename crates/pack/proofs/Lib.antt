@@ -1,3 +1,7 @@
 pub mod Packing
-pub mod Entries
-pub mod Writing
+pub mod SmallEntries
+pub mod Given
+pub mod Writable
+pub mod TablesHold
+pub mod WrittenOnce
+pub mod Examples

@@ -1,2 +1,1 @@
 pub mod Write
-pub mod Examples

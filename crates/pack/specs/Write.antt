@@ -1,22 +1,22 @@
 -- What writing a packed book promises.
 use mathlib.Core.Path.{_≡_}
 use mathlib.Core.Bool.{not, _||_}
-use mathlib.Core.List.{List, _++_}
+use mathlib.Core.List.{List, [], _∷_, _++_}
 use Prim.Native.Nat.{ℕ, _+_, _*_}
 use lib.Dec.{ltb}
 use lib.IntN.{ℤ, pos}
 use lib.ListN.{length, getD, drop}
-use Rattle.rows.specs.declared.Outcome.{Outcome}
-use Rattle.rows.specs.declared.Outcome.the-variants.{Accepted}
-use Rattle.rows.specs.declared.Answer.{Answer}
-use Rattle.rows.specs.Answer.{bare, refuseIf}
+use Rattle.answer.specs.declared.Outcome.{Outcome}
+use Rattle.answer.specs.declared.Outcome.the-variants.{Accepted}
+use Rattle.answer.specs.declared.Answer.{Answer}
+use Rattle.answer.specs.Answer.{numberOf, noGroup, Said, refuseIf, settled}
 use Rattle.rows.specs.Row.{nth, upTo}
+use Rattle.quantity.specs.Rating.{inKva}
 use Rattle.layout.specs.declared.Branch.{Branch}
 use Rattle.layout.specs.Book.{Book}
 use Rattle.layout.specs.Fault.{busFault, branchFault, firstFault}
 use Rattle.layout.specs.Layout.{bytesFor, busValues, encode}
 use Rattle.layout.specs.Check.{outside, refuseAt, balances}
-use Rattle.layout.specs.Lent.{settled}
 
 -- An injection and a branch of the tables beside a book.
 abbrev pub entry : List ℤ → ℕ → ℤ
@@ -26,7 +26,7 @@ abbrev pub rowAt : List ℕ → ℕ → Branch
 rowAt branches k = record {
   first = nth branches (4 * k);
   second = nth branches (4 * k + 1);
-  kva = nth branches (4 * k + 2);
+  kva = inKva (nth branches (4 * k + 2));
   status = nth branches (4 * k + 3);
 }
 
@@ -55,8 +55,11 @@ writeCheck n m factor injections branches room =
     (refuseIf (ltb room (bytesFor n m)) 8
     Accepted)))))
 
+abbrev pub writeNumbers : List ℕ
+writeNumbers = 2 ∷ 4 ∷ 5 ∷ 7 ∷ 8 ∷ []
+
 -- The answer to writing the tables' book into lent bytes, and every byte that these then hold.
 pub record BookWritten (n m factor : ℕ) (injections : List ℤ) (branches out out′ : List ℕ) (r : Answer) : Type 0 where
-  pub answer : r ≡ bare (writeCheck n m factor injections branches (length out))
+  pub answer : Said r (numberOf (writeCheck n m factor injections branches (length out))) 0 noGroup
   pub left : out′
       ≡ settled (writeCheck n m factor injections branches (length out)) out (encode (bookFrom n m factor injections branches) ++ drop (bytesFor n m) out)

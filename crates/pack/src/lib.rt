@@ -1,21 +1,26 @@
-// The writer's side of the packed book: the tables beside it are checked, and packed.
+// The packed book written: the tables beside it are checked, and packed.
 ghost use mathlib.Core.Path.{_≡_};
 ghost use Prim.Native.Nat.{_+_, _*_, _<_, _≤_};
 ghost use lib.ListN.{length, replicate};
-ghost use Rattle.rows.specs.declared.Outcome.the-variants.{Accepted};
+ghost use Rattle.answer.specs.declared.Outcome.the-variants.{Accepted};
 ghost use Rattle.rows.specs.Sum.{pick};
 ghost use Rattle.quantity.specs.Signed.{isNeg};
 ghost use Rattle.bits.specs.Fields.{putItems};
 ghost use Rattle.layout.specs.declared.Fault.the-variants.{Sound};
 ghost use Rattle.layout.specs.Book.{size};
 ghost use Rattle.layout.specs.Fault.{firstFault};
-ghost use Rattle.layout.specs.Layout.{busWidths, branchWidths, busStart, branchStart, bytesFor, busFrom, busValues, branchValues, encode};
+ghost use Rattle.layout.specs.Layout.{busWidths, branchWidths, busStart, branchStart, bytesFor, busValues, branchValues, encode};
+ghost use Rattle.layout.specs.Inside.{busFrom};
 ghost use Rattle.layout.specs.Check.{balances};
-ghost use Rattle.pack.specs.Write.{entry, rowAt, bookFrom, entryFault, rowFault, writeCheck};
+ghost use Rattle.pack.specs.Write.{entry, rowAt, bookFrom, entryFault, rowFault, writeCheck, BookWritten};
+use answer::Answer;
+use answer::Outcome;
 use layout::Branch;
 use layout::Bus;
 use layout::Fault;
-use rows::Outcome;
+use layout::Head;
+use layout::Sums;
+use quantity::Kva;
 
 fn sign_of(x: i32) -> u32
     ensures { λ r. ⌜ r ≡ pick (isNeg x) 1 ⌝ }
@@ -59,10 +64,11 @@ fn row_at(branches: &[u32], k: usize) -> Branch
     ensures { λ r. ⌜ r ≡ rowAt (now (branches .entry)) k ⌝ }
 {
     let at = 4 * k;
+    let kva = Kva(branches[at + 2]);
     Branch {
         first: branches[at],
         second: branches[at + 1],
-        kva: branches[at + 2],
+        kva,
         status: branches[at + 3],
     }
 }
@@ -85,18 +91,18 @@ fn is_balanced(injections: &[i32], buses: usize) -> bool
     requires { ⌜ (buses ≤ 128) × (buses ≤ length (now injections)) × (firstFault (entryFault (now injections)) buses ≡ Sound) ⌝ }
     ensures { λ r. ⌜ r ≡ balances buses (entry (now (injections .entry))) ⌝ }
 {
-    let mut enters: u32 = 0;
-    let mut leaves: u32 = 0;
+    let mut sums = Sums {
+        enters: 0,
+        leaves: 0,
+    };
     for k in 0..buses {
-        let x = injections[k];
-        enters += quantity::above(x);
-        leaves += quantity::below(x);
+        sums = layout::count_in(sums, injections[k]);
     }
-    enters == leaves
+    sums.enters == sums.leaves
 }
 
 // The writer's refusals, for so many bytes of output.
-pub fn check_tables(
+fn check_tables(
     buses: usize,
     count: usize,
     factor: u32,
@@ -107,27 +113,27 @@ pub fn check_tables(
     ensures { λ r. ⌜ r ≡ writeCheck buses count factor (now (injections .entry)) (now (branches .entry)) room ⌝ }
 {
     if layout::is_outside(buses, count, factor) {
-        return rows::refuse(2);
+        return answer::refuse(2);
     }
     if injections.len() < buses {
-        return rows::refuse(8);
+        return answer::refuse(8);
     }
     if branches.len() < 4 * count {
-        return rows::refuse(8);
+        return answer::refuse(8);
     }
     let bus = first_entry_fault(injections, buses);
     if let Fault::At { item: _, field: _ } = bus {
-        return rows::refuse(4);
+        return answer::refuse(4);
     }
     let branch = first_row_fault(branches, buses, count);
     if let Fault::At { item: _, field: _ } = branch {
-        return rows::refuse(5);
+        return answer::refuse(5);
     }
     if !is_balanced(injections, buses) {
-        return rows::refuse(7);
+        return answer::refuse(7);
     }
     if room < layout::bytes_for(buses, count) {
-        return rows::refuse(8);
+        return answer::refuse(8);
     }
     Outcome::Accepted
 }
@@ -145,10 +151,7 @@ fn put_buses(out: &mut [u8], buses: usize, injections: &[i32])
     ensures { λ _. ⌜ now (out .exit) ≡ putItems busWidths (now (out .entry)) busStart (λ k. busValues (entry (now (injections .entry)) k)) buses ⌝ }
 {
     for k in 0..buses {
-        let x = bus_of(injections[k]);
-        let at = layout::bus_place(k);
-        bits::put(out, at, 1, x.sign);
-        bits::put(out, at + 1, 20, x.size);
+        layout::put_bus(out, k, bus_of(injections[k]));
     }
 }
 
@@ -157,17 +160,12 @@ fn put_branches(out: &mut [u8], buses: usize, count: usize, branches: &[u32])
     ensures { λ _. ⌜ now (out .exit) ≡ putItems branchWidths (now (out .entry)) (branchStart buses) (λ k. branchValues (rowAt (now (branches .entry)) k)) count ⌝ }
 {
     for k in 0..count {
-        let x = row_at(branches, k);
-        let at = layout::branch_place(buses, k);
-        bits::put(out, at, 7, x.first);
-        bits::put(out, at + 7, 7, x.second);
-        bits::put(out, at + 14, 20, x.kva);
-        bits::put(out, at + 34, 1, x.status);
+        layout::put_branch(out, buses, k, row_at(branches, k));
     }
 }
 
 // The book of accepted tables, into a row of exactly its length.
-pub fn pack_into(
+fn pack_into(
     out: &mut [u8],
     buses: usize,
     count: usize,
@@ -179,10 +177,33 @@ pub fn pack_into(
     ensures { λ _. ⌜ now (out .exit) ≡ encode (bookFrom buses count factor (now (injections .entry)) (now (branches .entry))) ⌝ }
 {
     clear(out);
-    bits::put(out, 0, 8, buses as u32);
-    bits::put(out, 8, 9, count as u32);
-    bits::put(out, 17, 10, factor);
-    bits::put(out, 27, 5, 0);
+    let h = Head {
+        buses,
+        branches: count,
+        factor,
+        spare: 0,
+    };
+    layout::put_head(out, h);
     put_buses(out, buses, injections);
     put_branches(out, buses, count, branches);
+}
+
+// The tables' book, into lent bytes: refusals 2, 8, 4, 5, 7, 8.
+pub fn write_book(
+    buses: usize,
+    count: usize,
+    factor: u32,
+    injections: &[i32],
+    branches: &[u32],
+    out: &mut [u8],
+) -> Answer
+    ensures { λ r. ⌜ BookWritten buses count factor (now (injections .entry)) (now (branches .entry)) (now (out .entry)) (now (out .exit)) r ⌝ }
+{
+    let found = check_tables(buses, count, factor, injections, branches, out.len());
+    let Outcome::Accepted = found else {
+        return answer::answer_with(found);
+    };
+    let end = layout::bytes_for(buses, count);
+    pack_into(&mut out[..end], buses, count, factor, injections, branches);
+    answer::answer_with(found)
 }

@@ -4,13 +4,13 @@ use mathlib.Core.List.{append-nil, _++_}
 use mathlib.Core.Logic.{_≢_}
 use Prim.Native.Nat.{ℕ}
 use borrow.Author.Tests.{eq-eqb, ne-eqb}
-use Rattle.rows.specs.declared.Answer.{Answer}
-use Rattle.rows.specs.Answer.{numberOf, shortageOf}
-use Rattle.record.specs.declared.Shown.{Shown}
+use Rattle.answer.specs.declared.Answer.{Answer}
+use Rattle.answer.specs.Answer.{numberOf, shortageOf}
+use Rattle.record.specs.declared.Entry.{Entry}
 use Rattle.line.specs.Text.{nextOf}
 use Rattle.printing.specs.Lines.{outWord, carriesWord, shortWord, shortText, shownText, reasonText}
 
-module _ (s : Shown) where
+module _ (s : Entry) where
   pub shown-out : s .verdict ≡ 0 → outWord ≡ shownText s
   shown-out h = rw (eq-eqb (s .verdict) 0 h) refl
 

@@ -3,9 +3,9 @@ use mathlib.Core.Bool.{cond}
 use mathlib.Core.List.{List, [], _∷_, _++_}
 use Prim.Native.Nat.{ℕ}
 use lib.Dec.{eqb}
-use Rattle.rows.specs.declared.Answer.{Answer}
-use Rattle.rows.specs.Answer.{numberOf, shortageOf}
-use Rattle.record.specs.declared.Shown.{Shown}
+use Rattle.answer.specs.declared.Answer.{Answer}
+use Rattle.answer.specs.Answer.{numberOf, shortageOf}
+use Rattle.record.specs.declared.Entry.{Entry}
 use Rattle.line.specs.Text.{decimalOf, nextOf}
 use Rattle.line.specs.AnswerText.{groupText}
 
@@ -31,11 +31,11 @@ abbrev pub shortText : ℕ → List ℕ → List ℕ
 shortText shortage group = nextOf shortage ++ groupText group
 
 -- What a record shows: verdict 0 is out, 1 carries, any other is short.
-abbrev pub shownText : Shown → List ℕ
+abbrev pub shownText : Entry → List ℕ
 shownText s = cond (eqb (s .verdict) 0) outWord (cond (eqb (s .verdict) 1) carriesWord (shortWord ++ shortText (s .shortage) (s .group)))
 
 -- The branch's number, then what its record shows.
-abbrev pub branchText : ℕ → Shown → List ℕ
+abbrev pub branchText : ℕ → Entry → List ℕ
 branchText k s = decimalOf k ++ shownText s
 
 -- The number of the refusal; for 12 also shortage and group.

@@ -5,12 +5,12 @@ ghost use Rattle.printing.specs.List.{Answers};
 
 mod lines;
 
+use answer::Answer;
+use answer::Outcome;
 use line::write_line;
 use lines::put_branch;
 use lines::put_head;
 use lines::put_refused;
-use rows::Answer;
-use rows::Outcome;
 
 fn print_head(buses: usize, branches: usize) {
     let mut out = [0u8; 42];
@@ -18,9 +18,9 @@ fn print_head(buses: usize, branches: usize) {
     write_line(&mut out, end);
 }
 
-fn print_branch(k: usize, shown: record::Shown) {
+fn print_branch(k: usize, entry: record::Entry) {
     let mut out = [0u8; 2757];
-    let end = put_branch(&mut out, k, shown);
+    let end = put_branch(&mut out, k, entry);
     write_line(&mut out, end);
 }
 
@@ -34,13 +34,13 @@ fn print_refused(answer: Answer) {
 fn list(book: &[u8], table: &[u8])
     requires { ⌜ length (now table) ≡ 13312 ⌝ }
 {
-    let head = book::head_of(book);
+    let head = layout::head_of(book);
     let branches = head.branches;
     print_head(head.buses, branches);
     let mut k: usize = 0;
     while k < 256 {
         if k < branches {
-            print_branch(k, record::read_at(table, k));
+            print_branch(k, record::read(record::stretch(table, k)));
         }
         k += 1;
     }

@@ -1,16 +1,16 @@
 // The lines of document 01's list, each built in lent bytes from their first place on: where it ends comes back.
 ghost use Prim.Native.Nat.{_+_, _≤_};
 ghost use lib.ListN.{length};
-ghost use Rattle.line.specs.Text.{Added};
+ghost use Rattle.line.specs.Inside.{Added};
 ghost use Rattle.printing.specs.Lines.{headText, shortText, branchText, refusedText};
+use answer::Answer;
+use answer::number_of;
+use answer::shortage_of;
 use line::put;
 use line::put_decimal;
 use line::put_group;
 use line::put_next;
-use record::Shown;
-use rows::Answer;
-use rows::number_of;
-use rows::shortage_of;
+use record::Entry;
 
 pub fn put_head(out: &mut [u8], buses: usize, branches: usize) -> usize
     requires { ⌜ 41 ≤ length (now out) ⌝ }
@@ -31,13 +31,13 @@ fn put_short(out: &mut [u8], at: usize, shortage: u32, group: [u8; 16]) -> usize
     put_group(out, after, group)
 }
 
-pub fn put_branch(out: &mut [u8], k: usize, shown: Shown) -> usize
+pub fn put_branch(out: &mut [u8], k: usize, entry: Entry) -> usize
     requires { ⌜ 2756 ≤ length (now out) ⌝ }
-    ensures { λ r. ⌜ Added (branchText k shown) (now (out .entry)) 0 (now (out .exit)) r ⌝ }
+    ensures { λ r. ⌜ Added (branchText k entry) (now (out .entry)) 0 (now (out .exit)) r ⌝ }
     ensures { λ r. ⌜ r ≤ 2756 ⌝ }
 {
-    let verdict = shown.verdict;
-    let group = shown.group;
+    let verdict = entry.verdict;
+    let group = entry.group;
     let after_number = put_decimal(out, 0, k as u64);
     if verdict == 0 {
         return put(out, after_number, b" out");
@@ -46,7 +46,7 @@ pub fn put_branch(out: &mut [u8], k: usize, shown: Shown) -> usize
         return put(out, after_number, b" carries");
     }
     let after_word = put(out, after_number, b" short");
-    put_short(out, after_word, shown.shortage, group)
+    put_short(out, after_word, entry.shortage, group)
 }
 
 pub fn put_refused(out: &mut [u8], answer: Answer) -> usize

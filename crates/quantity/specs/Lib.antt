@@ -1,3 +1,4 @@
 pub mod Rating
 pub mod Signed
 pub mod Register
+pub mod Inside

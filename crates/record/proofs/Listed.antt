@@ -12,8 +12,8 @@ use Rattle.rows.specs.Row.{nth, some}
 use Rattle.rows.specs.Bit.{bitAt, has}
 use Rattle.rows.proofs.Row.{some-none, some-more, no-some, both-true}
 use Rattle.bits.proofs.Low.{low, low-lt, low-shift, low-zero, low-ext}
-use Rattle.verdict.specs.Record.{verdictOf, names}
-use Rattle.record.specs.Bytes.{listed}
+use Rattle.verdict.specs.Record.{verdictIn, names}
+use Rattle.record.specs.Inside.{listed}
 
 -- ---- One byte.
 least-two : (a b q : ℕ) → a < 2 → b < 2 → (q * 2 + min a b) / 2 ≡ q
@@ -86,10 +86,10 @@ module _ (rec touched : List ℕ) where
   -- So many bytes passed with nothing in common.
   pub record Passed (i : ℕ) : Type 0 where
     pub upto : i ≤ 32
-    pub first-is : verdictOf rec ≡ 1
+    pub first-is : verdictIn rec ≡ 1
     pub none : some (8 * i) hit ≡ false
 
-  pub passed-none : verdictOf rec ≡ 1 → Passed 0
+  pub passed-none : verdictIn rec ≡ 1 → Passed 0
   passed-none v = record { upto = omega arith; first-is = v; none = some-none hit }
 
   pub passed-more : {i : ℕ} → Passed i → i < 32 → bitAnd (nth rec (20 + i)) (nth touched i) ≡ 0 → Passed (i + 1)
@@ -97,20 +97,20 @@ module _ (rec touched : List ℕ) where
       let z : 8 * (i + 1) ≡ 8 * i + 8 = omega arith in
       record { upto = omega arith; first-is = p .first-is; none = rw z (clear-to i l e (p .none) 8 (omega arith)) }
 
-  pub not-one : (verdictOf rec ≡ 1 → ⊥) → true ≡ listed rec touched
+  pub not-one : (verdictIn rec ≡ 1 → ⊥) → true ≡ listed rec touched
   unfolding listed
-  not-one n = rw (ne-eqb (verdictOf rec) 1 n) refl
+  not-one n = rw (ne-eqb (verdictIn rec) 1 n) refl
 
   pub passed-all : {i : ℕ} → Passed i → 32 ≤ i → false ≡ listed rec touched
   unfolding listed
   passed-all {i} p l =
       let z : 8 * i ≡ 256 = omega (arith, p .upto) in
       let s : some 256 hit ≡ false = rw z at (p .none) in
-      rw (eq-eqb (verdictOf rec) 1 (p .first-is), s) refl
+      rw (eq-eqb (verdictIn rec) 1 (p .first-is), s) refl
 
   pub met : {i : ℕ} → Passed i → i < 32 → nth rec (20 + i) < 256 → nth touched i < 256 → (bitAnd (nth rec (20 + i)) (nth touched i) ≡ 0 → ⊥) → true ≡ listed rec touched
   unfolding listed
-  met {i} p l hx hy n = rw (eq-eqb (verdictOf rec) 1 (p .first-is)) (go (some 256 hit) refl)
+  met {i} p l hx hy n = rw (eq-eqb (verdictIn rec) 1 (p .first-is)) (go (some 256 hit) refl)
     where
       go : (t : Bool) → some 256 (λ j. names rec j && has touched j) ≡ t → true ≡ some 256 (λ j. names rec j && has touched j)
       go true e = sym e

@@ -9,8 +9,8 @@ use Rattle.rows.specs.Row.{nth, placed}
 use Rattle.rows.specs.Bit.{has}
 use Rattle.rows.proofs.Sum.{side, below, equal, above}
 use Rattle.bits.specs.Field.{Bytes}
-use Rattle.verdict.specs.Record.{verdictOf, shortageOf, groupOf, names, Zero}
-use Rattle.record.specs.Bytes.{recordBytes}
+use Rattle.verdict.specs.Record.{verdictIn, shortageIn, groupIn, names, Zero}
+use Rattle.record.specs.Inside.{recordBytes}
 
 -- A front p of a elements, then what is put in the place of the next n.
 front : (a n : ℕ) (p rest s : List ℕ) → length p ≡ a → placed a n (p ++ rest) s ≡ p ++ s ++ drop n rest
@@ -32,15 +32,15 @@ module _ (v s : ℕ) (g h : List ℕ) (lg : length g ≡ 16) (lh : length h ≡ 
   unfolding recordBytes
   record-long = simp length-append (omega arith)
 
-  pub record-verdict : verdictOf (recordBytes v s g h) ≡ v
+  pub record-verdict : verdictIn (recordBytes v s g h) ≡ v
   unfolding recordBytes
   record-verdict = refl
 
-  pub record-shortage : s < 16777216 → shortageOf (recordBytes v s g h) ≡ s
+  pub record-shortage : s < 16777216 → shortageIn (recordBytes v s g h) ≡ s
   unfolding recordBytes
   record-shortage l = omega arith
 
-  pub record-group : (i : ℕ) → groupOf (recordBytes v s g h) i ≡ has g i
+  pub record-group : (i : ℕ) → groupIn (recordBytes v s g h) i ≡ has g i
   unfolding recordBytes
   record-group i = ap (λ (l : List ℕ). has l i) (take-at g h 16 lg)
 

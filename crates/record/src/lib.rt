@@ -1,16 +1,24 @@
-// The 52 bytes of a branch, on a stretch lent out of the middle of the table: written, read, and tested for the shortlist.
+// The stretch of a branch, 52 bytes out of the middle of the lent table: cut, written, read, and tested for the shortlist.
 ghost use mathlib.Core.Path.{_≡_};
 ghost use Prim.Native.Nat.{_+_, _*_, _≤_, _<_};
 ghost use lib.ListN.{length, take, drop};
-ghost use Rattle.rows.specs.Row.{placed};
-ghost use Rattle.verdict.specs.Record.{recordAt};
-ghost use Rattle.record.specs.Bytes.{recordBytes, Read, listed};
+ghost use Rattle.record.specs.Inside.{Stretch, recordBytes, Read, listed};
 
 // What a record shows of its branch.
-pub struct Shown {
+pub struct Entry {
     pub verdict: u8,
     pub shortage: u32,
     pub group: [u8; 16],
+}
+
+// The stretch of branch k, cut for reading in this one place.
+pub fn stretch(table: &[u8], k: usize) -> &[u8]
+    requires { ⌜ 52 * k + 52 ≤ length (now table) ⌝ }
+    ensures { λ r. ⌜ Stretch (now (table .entry)) k (now r) ⌝ }
+{
+    let a = 52 * k;
+    let e = a + 52;
+    &table[a..e]
 }
 
 // All of one stretch into another as long.
@@ -25,7 +33,8 @@ fn copy(from: &[u8], to: &mut [u8])
     }
 }
 
-fn put_record(rec: &mut [u8], verdict: u8, shortage: u32, group: [u8; 16], reroute: [u8; 32])
+// All 52 bytes of a record.
+pub fn write(rec: &mut [u8], verdict: u8, shortage: u32, group: [u8; 16], reroute: [u8; 32])
     requires { ⌜ (length (now rec) ≡ 52) × (shortage < 16777216) ⌝ }
     ensures { λ _. ⌜ now (rec .exit) ≡ recordBytes verdict shortage group reroute ⌝ }
 {
@@ -37,51 +46,28 @@ fn put_record(rec: &mut [u8], verdict: u8, shortage: u32, group: [u8; 16], rerou
     copy(&reroute, &mut rec[20..52]);
 }
 
-pub fn write_at(
-    table: &mut [u8],
-    k: usize,
-    verdict: u8,
-    shortage: u32,
-    group: [u8; 16],
-    reroute: [u8; 32],
-)
-    requires { ⌜ (52 * k + 52 ≤ length (now table)) × (shortage < 16777216) ⌝ }
-    ensures { λ _. ⌜ now (table .exit) ≡ placed (52 * k) 52 (now (table .entry)) (recordBytes verdict shortage group reroute) ⌝ }
-{
-    let a = 52 * k;
-    let e = a + 52;
-    put_record(&mut table[a..e], verdict, shortage, group, reroute);
-}
-
 fn wide(x: u8) -> u32
     ensures { λ r. ⌜ (r ≡ x) × (r < 256) ⌝ }
 {
     x as u32
 }
 
-fn read_record(rec: &[u8]) -> Shown
+// What a record shows.
+pub fn read(rec: &[u8]) -> Entry
     requires { ⌜ length (now rec) ≡ 52 ⌝ }
     ensures { λ r. ⌜ Read (now (rec .entry)) r ⌝ }
 {
     let mut group = [0u8; 16];
     copy(&rec[4..20], &mut group);
-    Shown {
+    Entry {
         verdict: rec[0],
         shortage: wide(rec[1]) * 65536 + wide(rec[2]) * 256 + wide(rec[3]),
         group,
     }
 }
 
-pub fn read_at(table: &[u8], k: usize) -> Shown
-    requires { ⌜ 52 * k + 52 ≤ length (now table) ⌝ }
-    ensures { λ r. ⌜ Read (recordAt (now (table .entry)) k) r ⌝ }
-{
-    let a = 52 * k;
-    let e = a + 52;
-    read_record(&table[a..e])
-}
-
-fn read_reroute(rec: &[u8]) -> [u8; 32]
+// The bytes of the reroute.
+pub fn reroute_of(rec: &[u8]) -> [u8; 32]
     requires { ⌜ length (now rec) ≡ 52 ⌝ }
     ensures { λ r. ⌜ r ≡ take 32 (drop 20 (now (rec .entry))) ⌝ }
 {
@@ -90,18 +76,8 @@ fn read_reroute(rec: &[u8]) -> [u8; 32]
     reroute
 }
 
-// The bytes of the reroute.
-pub fn reroute_at(table: &[u8], k: usize) -> [u8; 32]
-    requires { ⌜ 52 * k + 52 ≤ length (now table) ⌝ }
-    ensures { λ r. ⌜ r ≡ take 32 (drop 20 (recordAt (now (table .entry)) k)) ⌝ }
-{
-    let a = 52 * k;
-    let e = a + 52;
-    read_reroute(&table[a..e])
-}
-
 // Byte 0 isn't 1, or the reroute names a touched branch. A byte of both is tested at once.
-fn is_listed(rec: &[u8], touched: [u8; 32]) -> bool
+pub fn is_listed(rec: &[u8], touched: [u8; 32]) -> bool
     requires { ⌜ length (now rec) ≡ 52 ⌝ }
     ensures { λ r. ⌜ r ≡ listed (now (rec .entry)) touched ⌝ }
 {
@@ -116,13 +92,4 @@ fn is_listed(rec: &[u8], touched: [u8; 32]) -> bool
         i += 1;
     }
     false
-}
-
-pub fn listed_at(table: &[u8], k: usize, touched: [u8; 32]) -> bool
-    requires { ⌜ 52 * k + 52 ≤ length (now table) ⌝ }
-    ensures { λ r. ⌜ r ≡ listed (recordAt (now (table .entry)) k) touched ⌝ }
-{
-    let a = 52 * k;
-    let e = a + 52;
-    is_listed(&table[a..e], touched)
 }

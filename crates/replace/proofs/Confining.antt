@@ -6,65 +6,42 @@ use Prim.Native.Nat.{ℕ, _+_, _≤_, _<_}
 use native.Mathlib.Omega.{arith}
 use borrow.Author.Tests.{eq-eqb, ne-eqb}
 use lib.Dec.{eqb}
+use lib.ListN.{length}
 use Rattle.rows.specs.Row.{nth}
 use Rattle.rows.specs.Bit.{has}
 use Rattle.rows.specs.Sum.{Group, all, pick, over}
-use Rattle.rows.proofs.Sum.{over-add, over-same, over-zero, over-all, over-term, side, below, equal, above}
-use Rattle.rows.proofs.Row.{and-false}
-use Rattle.grid.specs.Net.{Net, gains, loads, without}
-use Rattle.grid.specs.Flow.{Flow, Within, Balanced, at-end}
+use Rattle.rows.proofs.Sum.{over-add, over-same, over-zero, over-all, over-term}
+use Rattle.grid.proofs.Net.{Net, gains, loads, without}
+use Rattle.grid.proofs.Flow.{Flow, Within, Balanced, at-end}
 use Rattle.grid.proofs.Cut.{Settled, upper, whole}
 use Rattle.grid.proofs.Without.{ends-without}
 use Rattle.search.specs.declared.Wires.{Wires}
-use Rattle.reroute.specs.Flow.{network, carried, Even, Ready, Rerouted}
-use Rattle.reroute.specs.Inside.{Opened}
-use Rattle.reroute.specs.Verdicts.{Carrying, Losable}
+use Rattle.search.specs.declared.Latent.{Latent}
+use Rattle.reroute.specs.InsideMoves.{network, carried, NoneAt, TwiceLimit, Reroutable, Settles, Reroutes}
+use Rattle.reroute.specs.Inside.{cutAt, Opened}
+use Rattle.reroute.specs.InsideVerdicts.{Carrying, Losable}
+use Rattle.reroute.specs.declared.Rest.{Rest}
 use Rattle.reroute.specs.declared.Moved.{Moved}
-use Rattle.reroute.specs.declared.Latent.{Latent}
-use Rattle.reroute.proofs.Judging.{linked-ends}
-use Rattle.replace.specs.Replace.{Named, Merged, Confined}
+use Rattle.reroute.proofs.FlowVerdicts.{linked-ends}
+use Rattle.replace.specs.Inside.{Chosen, NamedOnly}
 use Rattle.replace.proofs.Split.{rest, only, split}
+use Rattle.replace.proofs.MergedRows.{nothing, merged-outside, merged-lost}
+use Rattle.replace.proofs.AttemptRows.{kept-same, lost-none, ahead-is, back-is}
+use Rattle.replace.proofs.KeptBranches.{keepOf, keep-k, Kind, kept, lost, other, kind}
 
-module _ (W : Wires) (live a b named : List ℕ) (k : ℕ) (P : Losable W live a b k) (q : Latent) (Q : Named (W .branches) named a b k q) where
-  -- The branches that the first attempt may use.
+-- q: what the first attempt may use.
+module _ (W : Wires) (live : List ℕ) (latent : Latent) (named : List ℕ) (k : ℕ) (P : Losable W live latent k) (la : length (latent .ahead) ≡ 256)
+    (lb : length (latent .back) ≡ 256) (q : Latent) (Q : Chosen (W .branches) named (cutAt latent k) nothing q) where
   abbrev keep : Group
-  keep j = has named j && not (eqb j k)
-
-  keep-k : keep k ≡ false
-  keep-k = rw (eq-eqb k k refl) (and-false (has named k))
-
-  data Kind (j : ℕ) : Type 0 where
-    kept : (j ≡ k → ⊥) → has named j ≡ true → keep j ≡ true → rest keep k j ≡ false → Kind j
-    lost : j ≡ k → Kind j
-    other : (j ≡ k → ⊥) → has named j ≡ false → keep j ≡ false → rest keep k j ≡ true → Kind j
-
-  kind : (j : ℕ) → Kind j
-  kind j = elim (side j k) [ below l ↦ go (λ e. omega arith) (has named j) refl | equal l ↦ lost l | above l ↦ go (λ e. omega arith) (has named j) refl ]
-    where
-      go : (j ≡ k → ⊥) → (t : Bool) → has named j ≡ t → Kind j
-      go n true e = kept n e (rw (e, ne-eqb j k n) refl) (rw (e, ne-eqb j k n) refl)
-      go n false e = other n e (rw e refl) (rw (e, ne-eqb j k n) refl)
+  keep = keepOf named k
 
   abbrev lim : ℕ → ℕ
   lim = only keep (nth live)
 
-  -- The rows of the attempt are those of the kept branches.
-  ahead-is : (j : ℕ) → j < W .branches → nth (q .ahead) j ≡ only keep (nth a) j
-  ahead-is j u = elim (kind j) [
-    | kept n e y z ↦ rw y (Q .inside j u n e .0)
-    | lost e ↦ rw (e, keep-k) (Q .lost .0)
-    | other n e y z ↦ rw y (Q .outside j e .0)
-  ]
-
-  back-is : (j : ℕ) → j < W .branches → nth (q .back) j ≡ only keep (nth b) j
-  back-is j u = elim (kind j) [
-    | kept n e y z ↦ rw y (Q .inside j u n e .1)
-    | lost e ↦ rw (e, keep-k) (Q .lost .1)
-    | other n e y z ↦ rw y (Q .outside j e .1)
-  ]
-
-  even° : Even (W .branches) (q .ahead) (q .back) lim
-  even° = record { twice = λ j u. rw (ahead-is j u, back-is j u) (go (keep j) (nth a j) (nth b j) (nth live j) (P .even .twice j u)) }
+  even° : TwiceLimit (W .branches) q lim
+  even° = record {
+    twice = λ j u. rw (ahead-is W live latent named k P la lb q Q j u, back-is W live latent named k P la lb q Q j u) (go (keep j) (nth (latent .ahead) j) (nth (latent .back) j) (nth live j) (P .even .twice j u));
+  }
     where
       go : (t : Bool) (x y z : ℕ) → x + y ≡ z + z → pick t x + pick t y ≡ pick t z + pick t z
       go true x y z e = e
@@ -74,16 +51,16 @@ module _ (W : Wires) (live a b named : List ℕ) (k : ℕ) (P : Losable W live a
   low true x h = h
   low false x h = omega arith
 
-  module _ (l d : List ℕ) (O : Opened (nth (W .first) k) (nth (W .second) k) (nth live k) (nth a k) l d) where
-    pub ready : Ready W (q .ahead) (q .back) l d
+  module _ (spill : Rest) (O : Opened W live latent k spill) where
+    pub ready : Reroutable W q spill
     ready = record {
       linked = P .linked;
       sums = record { fit = λ j u. omega (arith, even° .twice j u, low (keep j) (nth live j) (P .limits j u)) };
-      small = λ i h. O .small i;
+      small = λ i h. omega (arith, O .small i);
       apart = λ i h. O .apart i;
     }
 
-    module _ (gain load : ℕ → ℕ) (B : Balanced (network W (nth live) gain load) (carried (nth live) a) (λ i. 0) (λ i. 0)) where
+    module _ (gain load : ℕ → ℕ) (B : Balanced (network W (nth live) gain load) (carried (nth live) (latent .ahead)) (λ i. 0) (λ i. 0)) where
       abbrev N : Net
       N = network W (nth live) gain load
 
@@ -95,21 +72,21 @@ module _ (W : Wires) (live a b named : List ℕ) (k : ℕ) (P : Losable W live a
 
       -- What the other branches bring and take.
       abbrev gain° : ℕ → ℕ
-      gain° i = gain i + (at-second (only (rest keep k) (nth live)) i + at-first (only (rest keep k) (nth a)) i)
+      gain° i = gain i + (at-second (only (rest keep k) (nth live)) i + at-first (only (rest keep k) (nth (latent .ahead))) i)
 
       abbrev load° : ℕ → ℕ
-      load° i = load i + (at-first (only (rest keep k) (nth live)) i + at-second (only (rest keep k) (nth a)) i)
+      load° i = load i + (at-first (only (rest keep k) (nth live)) i + at-second (only (rest keep k) (nth (latent .ahead))) i)
 
       abbrev N° : Net
       N° = network W lim gain° load°
 
       parts : (p x : ℕ → ℕ) (i : ℕ) → at-end N p x i ≡ at-end N p (only keep x) i + at-end N p (only (rest keep k) x) i + pick (eqb (p k) i) (x k)
-      parts p x i = split keep k keep-k (W .branches) (λ j. eqb (p j) i) x (P .below)
+      parts p x i = split keep k (keep-k named k) (W .branches) (λ j. eqb (p j) i) x (P .below)
 
       row-same : (p x y : ℕ → ℕ) (i : ℕ) → ((j : ℕ) → j < W .branches → x j ≡ y j) → at-end N p x i ≡ at-end N p y i
       row-same p x y i h = over-same (W .branches) (λ j. eqb (p j) i) (λ j. eqb (p j) i) x y (λ j u. ap (pick (eqb (p j) i)) (h j u))
 
-      balanced° : Balanced N° (carried lim (q .ahead)) (nth l) (nth d)
+      balanced° : Settles W lim gain° load° q spill
       balanced° = record {
         bus = λ i h. omega (
           arith,
@@ -117,10 +94,10 @@ module _ (W : Wires) (live a b named : List ℕ) (k : ℕ) (P : Losable W live a
           O .differ i,
           parts (N .first) (nth live) i,
           parts (N .second) (nth live) i,
-          parts (N .first) (nth a) i,
-          parts (N .second) (nth a) i,
-          row-same (N .first) (nth (q .ahead)) (only keep (nth a)) i ahead-is,
-          row-same (N .second) (nth (q .ahead)) (only keep (nth a)) i ahead-is,
+          parts (N .first) (nth (latent .ahead)) i,
+          parts (N .second) (nth (latent .ahead)) i,
+          row-same (N .first) (nth (q .ahead)) (only keep (nth (latent .ahead))) i (ahead-is W live latent named k P la lb q Q),
+          row-same (N .second) (nth (q .ahead)) (only keep (nth (latent .ahead))) i (ahead-is W live latent named k P la lb q Q),
         );
       }
 
@@ -129,14 +106,14 @@ module _ (W : Wires) (live a b named : List ℕ) (k : ℕ) (P : Losable W live a
 
       -- The limits without k, taken apart.
       limit-kept : (j : ℕ) → only keep (M .limit) j ≡ lim j
-      limit-kept j = elim (kind j) [
+      limit-kept j = elim (kind named k j) [
         | kept n e y z ↦ rw (y, ne-eqb j k n) refl
-        | lost e ↦ rw (e, keep-k) refl
+        | lost e ↦ rw (e, keep-k named k) refl
         | other n e y z ↦ rw y refl
       ]
 
       limit-rest : (j : ℕ) → only (rest keep k) (M .limit) j ≡ only (rest keep k) (nth live) j
-      limit-rest j = elim (kind j) [
+      limit-rest j = elim (kind named k j) [
         | kept n e y z ↦ rw z refl
         | lost e ↦ rw (e, eq-eqb k k refl) (go (has named k))
         | other n e y z ↦ rw (z, ne-eqb j k n) refl
@@ -149,31 +126,34 @@ module _ (W : Wires) (live a b named : List ℕ) (k : ℕ) (P : Losable W live a
       limit-lost : M .limit k ≡ 0
       limit-lost = rw (eq-eqb k k refl) refl
 
-      module _ (m : Moved) (R : Rerouted W (q .ahead) (q .back) l d m) where
-        idle-at : (j : ℕ) → j < W .branches → keep j ≡ false → (nth (m .ahead) j ≡ 0) × (nth (m .back) j ≡ 0)
-        idle-at j u e = R .idle j (ahead-is j u ∙ rw e refl) (back-is j u ∙ rw e refl)
+      module _ (m : Moved) (R : Reroutes W q spill m) where
+        idle-at : (j : ℕ) → j < W .branches → keep j ≡ false → NoneAt (m .latent) j
+        idle-at j u e = R .idle j (ahead-is W live latent named k P la lb q Q j u ∙ rw e refl, back-is W live latent named k P la lb q Q j u ∙ rw e refl)
 
         -- ---- The named branches took the whole flow.
-        module _ (r : Latent) (G : Merged (W .branches) named a b (m .ahead) (m .back) k r) where
-          merged-kept : (j : ℕ) → j < W .branches → only keep (nth (r .ahead)) j ≡ nth (m .ahead) j
-          merged-kept j u = elim (kind j) [
-            | kept n e y z ↦ rw y (G .inside j u n e .0)
-            | lost e ↦ rw (e, keep-k) (sym (idle-at k (P .below) keep-k .0))
+        module _ (r : Latent) (G : Chosen (W .branches) named (m .latent) (cutAt latent k) r) where
+          gone : NoneAt r k
+          gone = merged-lost W live latent named k P la lb G (R .idle k (lost-none W live latent named k P la lb q Q))
+
+          merged-kept : (j : ℕ) → j < W .branches → only keep (nth (r .ahead)) j ≡ nth (m .latent .ahead) j
+          merged-kept j u = elim (kind named k j) [
+            | kept n e y z ↦ rw y (G .inside j u e .0)
+            | lost e ↦ rw (e, keep-k named k) (sym (idle-at k (P .below) (keep-k named k) .0))
             | other n e y z ↦ rw y (sym (idle-at j u y .0))
           ]
 
-          merged-rest : (j : ℕ) → only (rest keep k) (nth (r .ahead)) j ≡ only (rest keep k) (nth a) j
-          merged-rest j = elim (kind j) [
+          merged-rest : (j : ℕ) → only (rest keep k) (nth (r .ahead)) j ≡ only (rest keep k) (nth (latent .ahead)) j
+          merged-rest j = elim (kind named k j) [
             | kept n e y z ↦ rw z refl
             | lost e ↦ rw (e, eq-eqb k k refl) (go (has named k))
-            | other n e y z ↦ rw z (G .outside j n e .0)
+            | other n e y z ↦ rw z (merged-outside W live latent named k P la lb G j n e .0)
           ]
             where
-              go : (t : Bool) → pick (not (t && false) && false) (nth (r .ahead) k) ≡ pick (not (t && false) && false) (nth a k)
+              go : (t : Bool) → pick (not (t && false) && false) (nth (r .ahead) k) ≡ pick (not (t && false) && false) (nth (latent .ahead) k)
               go true = refl
               go false = refl
 
-          merged-balanced : Balanced M (carried (M .limit) (r .ahead)) (nth (m .surplus)) (nth (m .deficit))
+          merged-balanced : Balanced M (carried (M .limit) (r .ahead)) (nth (m .rest .surplus)) (nth (m .rest .deficit))
           merged-balanced = record {
             bus = λ i h. omega (
               arith,
@@ -186,14 +166,14 @@ module _ (W : Wires) (live a b named : List ℕ) (k : ℕ) (P : Losable W live a
               row-same (N .second) (only keep (M .limit)) lim i (λ j u. limit-kept j),
               row-same (N .first) (only (rest keep k) (M .limit)) (only (rest keep k) (nth live)) i (λ j u. limit-rest j),
               row-same (N .second) (only (rest keep k) (M .limit)) (only (rest keep k) (nth live)) i (λ j u. limit-rest j),
-              row-same (N .first) (only keep (nth (r .ahead))) (nth (m .ahead)) i merged-kept,
-              row-same (N .second) (only keep (nth (r .ahead))) (nth (m .ahead)) i merged-kept,
-              row-same (N .first) (only (rest keep k) (nth (r .ahead))) (only (rest keep k) (nth a)) i (λ j u. merged-rest j),
-              row-same (N .second) (only (rest keep k) (nth (r .ahead))) (only (rest keep k) (nth a)) i (λ j u. merged-rest j),
+              row-same (N .first) (only keep (nth (r .ahead))) (nth (m .latent .ahead)) i merged-kept,
+              row-same (N .second) (only keep (nth (r .ahead))) (nth (m .latent .ahead)) i merged-kept,
+              row-same (N .first) (only (rest keep k) (nth (r .ahead))) (only (rest keep k) (nth (latent .ahead))) i (λ j u. merged-rest j),
+              row-same (N .second) (only (rest keep k) (nth (r .ahead))) (only (rest keep k) (nth (latent .ahead))) i (λ j u. merged-rest j),
               ap (pick (eqb (N .first k) i)) limit-lost,
               ap (pick (eqb (N .second k) i)) limit-lost,
-              ap (pick (eqb (N .first k) i)) (G .lost .0),
-              ap (pick (eqb (N .second k) i)) (G .lost .0),
+              ap (pick (eqb (N .first k) i)) (gone .0),
+              ap (pick (eqb (N .second k) i)) (gone .0),
             );
           }
 
@@ -201,29 +181,38 @@ module _ (W : Wires) (live a b named : List ℕ) (k : ℕ) (P : Losable W live a
           merged-within = record { ahead-fits = λ j u. omega arith; back-fits = back-fits }
             where
               back-fits : (j : ℕ) → j < W .branches → nth (r .ahead) j ≤ M .limit j + M .limit j
-              back-fits j u = elim (kind j) [
-                | kept n e y z ↦ rw (ne-eqb j k n) (omega (arith, G .inside j u n e .0, R .kept j, Q .inside j u n e .0, Q .inside j u n e .1, P .even .twice j u))
-                | lost e ↦ rw e (omega (arith, G .lost .0))
-                | other n e y z ↦ rw (ne-eqb j k n) (omega (arith, G .outside j n e .0, P .even .twice j u))
+              back-fits j u = elim (kind named k j) [
+                | kept n e y z ↦ rw (ne-eqb j k n) (omega (arith, G .inside j u e .0, R .kept j, kept-same W live latent named k P la lb q Q j u n e .0, kept-same W live latent named k P la lb q Q j u n e .1, P .even .twice j u))
+                | lost e ↦ rw e (omega (arith, gone .0))
+                | other n e y z ↦ rw (ne-eqb j k n) (omega (arith, merged-outside W live latent named k P la lb G j n e .0, P .even .twice j u))
               ]
 
           pub confined-carries : m .left ≡ 0 → Carrying M (carried (M .limit) (r .ahead))
           confined-carries z = record {
             within = merged-within;
             balanced = λ g. record {
-              bus = λ i h. omega (arith, merged-balanced .bus i h, over-term (W .buses) all (nth (m .surplus)) i h, over-term (W .buses) all (nth (m .deficit)) i h, R .left-over, none g);
+              bus = λ i h. omega (arith, merged-balanced .bus i h, over-term (W .buses) all (nth (m .rest .surplus)) i h, over-term (W .buses) all (nth (m .rest .deficit)) i h, R .left-over, none g);
             };
-            groups = λ S. omega (arith, upper M (carried (M .limit) (r .ahead)) (nth (m .surplus)) (nth (m .deficit)) settled S, over-all (W .buses) S (nth (m .surplus)), R .left-over);
+            groups = λ S. omega (arith, upper M (carried (M .limit) (r .ahead)) (nth (m .rest .surplus)) (nth (m .rest .deficit)) settled S, over-all (W .buses) S (nth (m .rest .surplus)), R .left-over);
           }
             where
-              settled : Settled M (carried (M .limit) (r .ahead)) (nth (m .surplus)) (nth (m .deficit))
-              settled = record { ends = ends-without N k (linked-ends W (P .linked) (nth live) gain load); within = merged-within; balanced = merged-balanced }
+              settled : Settled M (carried (M .limit) (r .ahead)) (nth (m .rest .surplus)) (nth (m .rest .deficit))
+              settled = record {
+                ends = ends-without N k (linked-ends W (P .linked) (nth live) gain load);
+                within = merged-within;
+                balanced = merged-balanced;
+              }
 
-              none : gains M all ≡ loads M all → over (W .buses) all (nth (m .deficit)) ≡ 0
-              none g = omega (arith, z, R .left-over, whole M (carried (M .limit) (r .ahead)) (nth (m .surplus)) (nth (m .deficit)) (settled .ends) merged-balanced all)
+              none : gains M all ≡ loads M all → over (W .buses) all (nth (m .rest .deficit)) ≡ 0
+              none g = omega (
+                arith,
+                z,
+                R .left-over,
+                whole M (carried (M .limit) (r .ahead)) (nth (m .rest .surplus)) (nth (m .rest .deficit)) (settled .ends) merged-balanced all,
+              )
 
         -- ---- They could not: then no flow confined to them fits.
-        module _ (h : Flow) (F : Confined W live a named k gain load h) where
+        module _ (h : Flow) (F : NamedOnly W live (latent .ahead) named k gain load h) where
           held : Flow
           held = record { ahead = only keep (h .ahead); back = only keep (h .back) }
 
@@ -231,10 +220,11 @@ module _ (W : Wires) (live a b named : List ℕ) (k : ℕ) (P : Losable W live a
           unfolding held
           held-within = record { ahead-fits = λ j u. fits j u .0; back-fits = λ j u. fits j u .1 }
             where
-              fits : (j : ℕ) → j < W .branches → (only keep (h .ahead) j ≤ only keep (h .back) j + lim j) × (only keep (h .back) j ≤ only keep (h .ahead) j + lim j)
-              fits j u = elim (kind j) [
+              fits : (j : ℕ) → j < W .branches
+                  → (only keep (h .ahead) j ≤ only keep (h .back) j + lim j) × (only keep (h .back) j ≤ only keep (h .ahead) j + lim j)
+              fits j u = elim (kind named k j) [
                 | kept n e y z ↦ rw y (rw (ne-eqb j k n) at (F .within .ahead-fits j u), rw (ne-eqb j k n) at (F .within .back-fits j u))
-                | lost e ↦ rw (e, keep-k) (omega arith, omega arith)
+                | lost e ↦ rw (e, keep-k named k) (omega arith, omega arith)
                 | other n e y z ↦ rw y (omega arith, omega arith)
               ]
 
@@ -243,24 +233,26 @@ module _ (W : Wires) (live a b named : List ℕ) (k : ℕ) (P : Losable W live a
 
           -- On the branches that are neither kept nor k, the flow is the present one.
           rest-same : (p : ℕ → ℕ) (i : ℕ)
-              → at-end N p (only (rest keep k) (h .ahead)) i + at-end N p (only (rest keep k) (nth a)) i ≡ at-end N p (only (rest keep k) (nth live)) i + at-end N p (only (rest keep k) (h .back)) i
+              → at-end N p (only (rest keep k) (h .ahead)) i + at-end N p (only (rest keep k) (nth (latent .ahead))) i ≡ at-end N p (only (rest keep k) (nth live)) i + at-end N p (only (rest keep k) (h .back)) i
           rest-same p i =
               let S : Group = λ j. eqb (p j) i in
               omega (
                 arith,
-                over-add (W .branches) S (only (rest keep k) (h .ahead)) (only (rest keep k) (nth a)),
+                over-add (W .branches) S (only (rest keep k) (h .ahead)) (only (rest keep k) (nth (latent .ahead))),
                 over-add (W .branches) S (only (rest keep k) (nth live)) (only (rest keep k) (h .back)),
-                over-same (W .branches) S S (λ j. only (rest keep k) (h .ahead) j + only (rest keep k) (nth a) j) (λ j. only (rest keep k) (nth live) j + only (rest keep k) (h .back) j) (λ j u. ap (pick (S j)) (at j u)),
+                over-same (W .branches) S S (λ j. only (rest keep k) (h .ahead) j + only (rest keep k) (nth (latent .ahead)) j) (λ j. only (rest keep k) (nth live) j + only (rest keep k) (h .back) j) (λ j u. ap (pick (S j)) (at j u)),
               )
             where
-              at : (j : ℕ) → j < W .branches → only (rest keep k) (h .ahead) j + only (rest keep k) (nth a) j ≡ only (rest keep k) (nth live) j + only (rest keep k) (h .back) j
-              at j u = elim (kind j) [
+              at : (j : ℕ) → j < W .branches
+                  → only (rest keep k) (h .ahead) j + only (rest keep k) (nth (latent .ahead)) j ≡ only (rest keep k) (nth live) j + only (rest keep k) (h .back) j
+              at j u = elim (kind named k j) [
                 | kept n e y z ↦ rw z refl
                 | lost e ↦ rw (e, eq-eqb k k refl) (none (has named k))
                 | other n e y z ↦ rw z (F .same j u n e)
               ]
                 where
-                  none : (t : Bool) → pick (not (t && false) && false) (h .ahead k) + pick (not (t && false) && false) (nth a k) ≡ pick (not (t && false) && false) (nth live k) + pick (not (t && false) && false) (h .back k)
+                  none : (t : Bool)
+                      → pick (not (t && false) && false) (h .ahead k) + pick (not (t && false) && false) (nth (latent .ahead) k) ≡ pick (not (t && false) && false) (nth live k) + pick (not (t && false) && false) (h .back k)
                   none true = refl
                   none false = refl
 

@@ -1,4 +1,7 @@
 pub mod Split
+pub mod KeptBranches
+pub mod MergedRows
+pub mod AttemptRows
 pub mod Confining
-pub mod Masking
+pub mod Choosing
 pub mod Replacing

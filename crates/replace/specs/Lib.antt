@@ -1,1 +1,1 @@
-pub mod Replace
+pub mod Inside

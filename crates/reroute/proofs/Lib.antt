@@ -1,7 +1,7 @@
-pub mod Rows
+pub mod OnePlace
 pub mod Walks
 pub mod Moving
 pub mod Casting
 pub mod Rounds
 pub mod Ends
-pub mod Judging
+pub mod FlowVerdicts

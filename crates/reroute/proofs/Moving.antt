@@ -1,5 +1,6 @@
 -- What moving x along a way does: the sums of the latent capacities stay, and only the two ends of the way see a change.
 use mathlib.Core.Path.{_≡_, refl, sym, ap, ap₂, subst, _∙_}
+use mathlib.Core.Bool.{cond}
 use mathlib.Core.List.{List, [], _∷_}
 use Prim.Native.Nat.{ℕ, suc, _+_, _-_, _^_, _<_, _≤_, min}
 use native.Mathlib.Omega.{arith}
@@ -11,9 +12,10 @@ use lib.Seq.{getD-set-same, getD-set-other}
 use Rattle.rows.specs.Row.{nth}
 use Rattle.rows.specs.Sum.{pick}
 use Rattle.rows.proofs.Sum.{pick-add, over-set}
-use Rattle.search.specs.Search.{choose, narrow, Distinct}
+use Rattle.search.specs.InsideSearch.{narrow, Distinct}
 use Rattle.search.specs.declared.Wires.{Wires}
-use Rattle.reroute.specs.Flow.{Sums}
+use Rattle.search.specs.declared.Latent.{Latent}
+use Rattle.reroute.specs.InsideMoves.{Sums}
 use Rattle.reroute.specs.Inside.{ends, Movable, Moves}
 use Rattle.reroute.proofs.Walks.{Hop, Walk, walk-start, walk-bus, walk-end, both, two, branch, walk-on, to-second, walk-forth, walk-back}
 
@@ -24,14 +26,15 @@ narrow-back : (f s a b : List ℕ) (v k : ℕ) (ks : List ℕ) → (nth s k ≡ 
 narrow-back f s a b v k ks e = rw (ne-eqb (nth s k) v e)
 
 -- a store at branch k leaves a way that does not use k
-narrow-kept : (f s a b : List ℕ) (k x y v : ℕ) (ks : List ℕ) → ((i : ℕ) → i < length ks → nth ks i ≡ k → ⊥) → narrow f s (set a k x) (set b k y) v ks ≡ narrow f s a b v ks
+narrow-kept : (f s a b : List ℕ) (k x y v : ℕ) (ks : List ℕ) → ((i : ℕ) → i < length ks → nth ks i ≡ k → ⊥)
+    → narrow f s (set a k x) (set b k y) v ks ≡ narrow f s a b v ks
 narrow-kept f s a b k x y v [] n = refl
 narrow-kept f s a b k x y v (j ∷ js) n =
     let z : j ≡ k → ⊥ = n 0 (omega arith) in
     ap₂
     min
-    (narrow-kept f s a b k x y (choose (eqb (nth s j) v) (nth f j) (nth s j)) js (λ i l. n (suc i) (omega arith)))
-    (ap₂ (choose (eqb (nth s j) v)) (getD-set-other a k j x 0 z) (getD-set-other b k j y 0 z))
+    (narrow-kept f s a b k x y (cond (eqb (nth s j) v) (nth f j) (nth s j)) js (λ i l. n (suc i) (omega arith)))
+    (ap₂ (cond (eqb (nth s j) v)) (getD-set-other a k j x 0 z) (getD-set-other b k j y 0 z))
 
 -- x is moved on the way from the goal back to bus `at`; on the rest of the way every branch still has it.
 pub record Going (n : ℕ) (f s a₀ b₀ m : List ℕ) (goal x : ℕ) (a b : List ℕ) (at steps : ℕ) : Type 0 where
@@ -42,22 +45,24 @@ pub record Going (n : ℕ) (f s a₀ b₀ m : List ℕ) (goal x : ℕ) (a b : Li
   pub once : Distinct (walk .ks)
   pub long-a : length a ≡ 256
   pub long-b : length b ≡ 256
-  pub sums : Sums n a₀ b₀
+  pub sums : Sums n (record { ahead = a₀; back = b₀ })
   pub same : (k : ℕ) → nth a k + nth b k ≡ nth a₀ k + nth b₀ k
   pub beyond : (k : ℕ) → n ≤ k → nth a k ≡ nth a₀ k
   pub drift : (i : ℕ) → ends n f a i + ends n s a₀ i + pick (eqb at i) x ≡ ends n f a₀ i + ends n s a i + pick (eqb goal i) x
 
-pub going-start : {W : Wires} {m a b : List ℕ} {goal x : ℕ} → Movable W m a b goal x → Going (W .branches) (W .first) (W .second) a b m goal x a b goal 0
+pub going-start : {W : Wires} {m : List ℕ} {latent : Latent} {goal x : ℕ} → Movable W m latent goal x → length m ≡ 128 → length (latent .ahead) ≡ 256
+    → length (latent .back) ≡ 256
+    → Going (W .branches) (W .first) (W .second) (latent .ahead) (latent .back) m goal x (latent .ahead) (latent .back) goal 0
 unfolding walk-start
-going-start {W} {m} {a} {b} {goal} {x} M =
+going-start {W} {m} {latent} {goal} {x} M long long-a long-b =
     record {
       few = M .few;
-      long = M .long;
+      long = long;
       walk = walk-start (W .branches) (W .first) (W .second) m goal (M .trail .from) (M .trail .ks) (M .trail .path) (M .trail .short);
       fits = omega (arith, M .fits, M .trail .least);
       once = M .trail .branches-once;
-      long-a = M .long-a;
-      long-b = M .long-b;
+      long-a = long-a;
+      long-b = long-b;
       sums = M .sums;
       same = λ k. refl;
       beyond = λ k l. refl;
@@ -97,7 +102,8 @@ module _ {n : ℕ} {f s a₀ b₀ m : List ℕ} {goal x : ℕ} {a b : List ℕ} 
     fresh i l g = lone .once 0 (suc i) (omega arith) (omega arith) (sym g)
 
     -- the rest of the records, whichever way the branch goes: p and q are the new latent capacities there
-    step : (u p q : ℕ) (W : Walk n f s m goal u (steps + 1)) → W .ks ≡ H .rest → x ≤ narrow f s a b u (H .rest) → p + q ≡ nth a (nth m at - 2) + nth b (nth m at - 2)
+    step : (u p q : ℕ) (W : Walk n f s m goal u (steps + 1)) → W .ks ≡ H .rest → x ≤ narrow f s a b u (H .rest)
+        → p + q ≡ nth a (nth m at - 2) + nth b (nth m at - 2)
         → ((i : ℕ) → ends n f (set a (nth m at - 2) p) i + ends n s a₀ i + pick (eqb u i) x ≡ ends n f a₀ i + ends n s (set a (nth m at - 2) p) i + pick (eqb goal i) x)
         → Going n f s a₀ b₀ m goal x (set a (nth m at - 2) p) (set b (nth m at - 2) q) u (steps + 1)
     step u p q W e l sum d =
@@ -133,7 +139,8 @@ module _ {n : ℕ} {f s a₀ b₀ m : List ℕ} {goal x : ℕ} {a b : List ℕ} 
       forth-sum = omega (arith, forth-room, G .sums .fit (nth m at - 2) in-n, G .same (nth m at - 2))
 
       -- p and q are the new latent capacities of the branch
-      pub going-forth : (p q : ℕ) → p + x ≡ nth a (nth m at - 2) → q ≡ nth b (nth m at - 2) + x → Going n f s a₀ b₀ m goal x (set a (nth m at - 2) p) (set b (nth m at - 2) q) (nth f (nth m at - 2)) (steps + 1)
+      pub going-forth : (p q : ℕ) → p + x ≡ nth a (nth m at - 2) → q ≡ nth b (nth m at - 2) + x
+          → Going n f s a₀ b₀ m goal x (set a (nth m at - 2) p) (set b (nth m at - 2) q) (nth f (nth m at - 2)) (steps + 1)
       unfolding walk-forth walk-on H
       going-forth p q ep eq =
           step
@@ -169,7 +176,8 @@ module _ {n : ℕ} {f s a₀ b₀ m : List ℕ} {goal x : ℕ} {a b : List ℕ} 
       first-at : nth f (nth m at - 2) ≡ at
       first-at = to-second n f s m goal at steps (G .walk) z g .1
 
-      pub going-back : (p q : ℕ) → p ≡ nth a (nth m at - 2) + x → q + x ≡ nth b (nth m at - 2) → Going n f s a₀ b₀ m goal x (set a (nth m at - 2) p) (set b (nth m at - 2) q) (nth s (nth m at - 2)) (steps + 1)
+      pub going-back : (p q : ℕ) → p ≡ nth a (nth m at - 2) + x → q + x ≡ nth b (nth m at - 2)
+          → Going n f s a₀ b₀ m goal x (set a (nth m at - 2) p) (set b (nth m at - 2) q) (nth s (nth m at - 2)) (steps + 1)
       unfolding walk-back walk-on H
       going-back p q ep eq =
           step
@@ -192,8 +200,8 @@ module _ {n : ℕ} {f s a₀ b₀ m : List ℕ} {goal x : ℕ} {a b : List ℕ} 
             ap (λ (v : ℕ). pick (eqb v i) x) first-at,
           ))
 
-pub going-end : {W : Wires} {m a₀ b₀ a b : List ℕ} {goal x at steps : ℕ} → Going (W .branches) (W .first) (W .second) a₀ b₀ m goal x a b at steps → nth m at ≡ 1
-    → Moves W m a₀ b₀ goal x a b
+pub going-end : {W : Wires} {m : List ℕ} {latent r : Latent} {goal x at steps : ℕ}
+    → Going (W .branches) (W .first) (W .second) (latent .ahead) (latent .back) m goal x (r .ahead) (r .back) at steps → nth m at ≡ 1 → Moves W m latent goal x r
 going-end {goal = goal} {at = at} {steps = steps} G z =
     record {
       same = G .same;

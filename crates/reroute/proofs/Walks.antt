@@ -6,8 +6,8 @@ use native.Mathlib.Omega.{arith}
 use native.Mathlib.Decide.{ℕ-discrete}
 use lib.ListN.{length}
 use Rattle.rows.specs.Row.{nth}
-use Rattle.search.specs.Search.{Joins, Path, stop, via}
-use Rattle.search.specs.Search.Joins.{forth, back}
+use Rattle.search.specs.InsideSearch.{Joins, Path, stop, via}
+use Rattle.search.specs.InsideSearch.Joins.{forth, back}
 
 -- One step back, over branch k.
 pub record Hop (k n : ℕ) (f s m : List ℕ) (from v : ℕ) (ks : List ℕ) : Type 0 where
@@ -19,7 +19,8 @@ pub record Hop (k n : ℕ) (f s m : List ℕ) (from v : ℕ) (ks : List ℕ) : T
   pub joins : Joins u (nth f k) (nth s k) v
   pub path : Path n f s m from u rest
 
-hop : (n : ℕ) (f s m : List ℕ) (from v : ℕ) (ks : List ℕ) → Path n f s m from v ks → (nth m v ≡ 1 → ⊥) → (2 ≤ nth m v) × Hop (nth m v - 2) n f s m from v ks
+hop : (n : ℕ) (f s m : List ℕ) (from v : ℕ) (ks : List ℕ) → Path n f s m from v ks → (nth m v ≡ 1 → ⊥)
+    → (2 ≤ nth m v) × Hop (nth m v - 2) n f s m from v ks
 hop n f s m from v ks (stop w e h g) z = absurd (z g)
 hop n f s m from v ks (via k u w js h l y a g c) z =
     (omega arith, subst (λ (j : ℕ). Hop j n f s m from w (k ∷ js)) (omega arith) (record { u = u; rest = js; is = refl; below = l; apart = a; joins = y; path = c }))
@@ -52,7 +53,8 @@ one-start : (n : ℕ) (f s m : List ℕ) (from from′ v : ℕ) (ks ks′ : List
 one-start n f s m from from′ v ks ks′ (stop w e h g) p = arrived n f s m from′ w ks′ p g ∙ sym e
 one-start n f s m from from′ v ks ks′ (via k u w js h l y a g c) p =
     let H : Hop k n f s m from′ w ks′ = subst (λ (j : ℕ). Hop j n f s m from′ w ks′) (omega arith) (hop n f s m from′ w ks′ p (λ z. omega arith) .1) in
-    one-start n f s m from from′ u js (H .rest) c (subst (λ (j : ℕ). Path n f s m from′ j (H .rest)) (same-end _ _ _ _ _ y (H .joins) a (H .apart)) (H .path))
+    one-start n f s m from from′ u js (H .rest) c
+    (subst (λ (j : ℕ). Path n f s m from′ j (H .rest)) (same-end _ _ _ _ _ y (H .joins) a (H .apart)) (H .path))
 
 -- Some way back from the goal is walked as far as bus `at`, in so many steps.
 pub record Walk (n : ℕ) (f s m : List ℕ) (goal at steps : ℕ) : Type 0 where
@@ -63,7 +65,8 @@ pub record Walk (n : ℕ) (f s m : List ℕ) (goal at steps : ℕ) : Type 0 wher
   pub origin : Path n f s m from goal every
   pub left : length ks + steps < 128
 
-unfoldable pub walk-start : (n : ℕ) (f s m : List ℕ) (goal from : ℕ) (ks : List ℕ) → Path n f s m from goal ks → length ks < 128 → Walk n f s m goal goal 0
+unfoldable pub walk-start : (n : ℕ) (f s m : List ℕ) (goal from : ℕ) (ks : List ℕ) → Path n f s m from goal ks → length ks < 128
+    → Walk n f s m goal goal 0
 walk-start n f s m goal from ks p l = record { from = from; ks = ks; path = p; every = ks; origin = p; left = omega arith }
 
 module _ (n : ℕ) (f s m : List ℕ) (goal at steps : ℕ) (T : Walk n f s m goal at steps) where

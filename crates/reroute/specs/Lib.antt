@@ -1,3 +1,3 @@
-pub mod Flow
-pub mod Verdicts
+pub mod InsideMoves
+pub mod InsideVerdicts
 pub mod Inside

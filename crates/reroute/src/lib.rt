@@ -1,21 +1,16 @@
 // Surplus that is left at some buses is moved to deficits at others, route by route, over the latent capacities of a network.
 // From that follow two verdicts: on a network as it is, and after the loss of one branch.
 // What is public here serves the crates above alone, which meet what it requires.
-ghost use Rattle.reroute.specs.Flow.{total, Ready, Rerouted};
-ghost use Rattle.reroute.specs.Verdicts.{Basic, Based, Losable, Lost};
-ghost use Rattle.reroute.specs.Inside.{roleOf, Roles, Movable, Moves, Summable, Judged, Joint, Opened};
-ghost use Prim.Native.Nat.{_≤_};
+ghost use Rattle.reroute.specs.InsideMoves.{total, Reroutable, Reroutes};
+ghost use Rattle.reroute.specs.InsideVerdicts.{Basic, Based, Losable, Lost};
+ghost use Rattle.reroute.specs.Inside.{roleOf, Roles, Movable, Moves, Summable, Judged, Opened, cutAt};
+ghost use Prim.Native.Nat.{_<_, _≤_};
 ghost use mathlib.Core.Path.{_≡_};
+use search::Latent;
 use search::Search;
 use search::Wires;
 use search::Work;
 use search::smaller;
-
-// The latent capacity of each branch from its first end to its second, and back.
-pub struct Latent {
-    pub ahead: [u32; 256],
-    pub back: [u32; 256],
-}
 
 // What is left at each bus.
 pub struct Rest {
@@ -25,10 +20,8 @@ pub struct Rest {
 
 // `left` is the whole surplus left, and `group` the smallest group with that excess.
 pub struct Moved {
-    pub ahead: [u32; 256],
-    pub back: [u32; 256],
-    pub surplus: [u32; 128],
-    pub deficit: [u32; 128],
+    pub latent: Latent,
+    pub rest: Rest,
     pub group: [u8; 16],
     pub left: u32,
 }
@@ -40,8 +33,7 @@ pub enum Verdict {
 
 pub struct Judgement {
     pub verdict: Verdict,
-    pub ahead: [u32; 256],
-    pub back: [u32; 256],
+    pub latent: Latent,
     pub group: [u8; 16],
 }
 
@@ -57,7 +49,7 @@ fn role(surplus: u32, deficit: u32) -> u8
 
 fn roles(buses: usize, rest: Rest) -> [u8; 128]
     requires { ⌜ buses ≤ 128 ⌝ }
-    ensures { λ r. ⌜ Roles buses (rest .surplus) (rest .deficit) r ⌝ }
+    ensures { λ r. ⌜ Roles buses rest r ⌝ }
 {
     let mut row = [0u8; 128];
     let mut v: usize = 0;
@@ -83,99 +75,85 @@ fn sum(buses: usize, row: [u32; 128]) -> u32
 
 // Moves x along the way that the marks lead back from the goal: each branch loses it one way and gains it the other.
 // The steps are counted for the proof that it ends.
-fn shift(wires: Wires, marks: &[u16], a: &mut [u32], b: &mut [u32], goal: usize, x: u32)
-    requires { ⌜ Movable wires (now marks) (now a) (now b) goal x ⌝ }
-    ensures { λ _. ⌜ Moves wires (now (marks .entry)) (now (a .entry)) (now (b .entry)) goal x (now (a .exit)) (now (b .exit)) ⌝ }
+fn shift(wires: Wires, marks: [u16; 128], mut latent: Latent, goal: usize, x: u32) -> Latent
+    requires { ⌜ Movable wires marks latent goal x ⌝ }
+    ensures { λ r. ⌜ Moves wires marks latent goal x r ⌝ }
 {
     let mut at = goal;
     let mut steps: usize = 0;
     loop {
         let mark = marks[at] as usize;
         if mark == 1 {
-            return;
+            return latent;
         }
         let k = mark - 2;
         let near = wires.first[k] as usize;
         let far = wires.second[k] as usize;
-        let p = a[k];
-        let q = b[k];
+        let p = latent.ahead[k];
+        let q = latent.back[k];
         if far == at {
-            a[k] = p - x;
-            b[k] = q + x;
+            latent.ahead[k] = p - x;
+            latent.back[k] = q + x;
             at = near;
         } else {
-            a[k] = p + x;
-            b[k] = q - x;
+            latent.ahead[k] = p + x;
+            latent.back[k] = q - x;
             at = far;
         }
         steps += 1;
     }
 }
 
-// Moves surplus to deficits until none is left or no route is.
-pub fn reroute(wires: Wires, latent: Latent, rest: Rest) -> Moved
-    requires { ⌜ Ready wires (latent .ahead) (latent .back) (rest .surplus) (rest .deficit) ⌝ }
-    ensures { λ r. ⌜ Rerouted wires (latent .ahead) (latent .back) (rest .surplus) (rest .deficit) r ⌝ }
-{
-    let mut a = latent.ahead;
-    let mut b = latent.back;
-    let mut more = rest.surplus;
-    let mut lack = rest.deficit;
-    let mut row = roles(wires.buses, rest);
-    let mut left = sum(wires.buses, more);
-    while left > 0 {
-        let work = Work {
-            marks: [0u16; 128],
-            queue: [0u8; 128],
-            ahead: a,
-            back: b,
-        };
-        let found = search::explore(wires, work, row);
-        let answer = found.answer;
-        let Search::Route { goal, room, start } = answer else {
-            let group = found.group;
-            return outcome(a, b, more, lack, group, left);
-        };
-        let way = found.work;
-        let marks = way.marks;
-        let s = more[start];
-        let t = lack[goal];
-        let x = smaller(room, smaller(s, t));
-        shift(wires, &marks, &mut a, &mut b, goal, x);
-        more[start] = s - x;
-        lack[goal] = t - x;
-        row[start] = role(s - x, 0);
-        row[goal] = role(0, t - x);
-        left -= x;
-    }
-    outcome(a, b, more, lack, [0u8; 16], left)
-}
-
-fn outcome(
-    ahead: [u32; 256],
-    back: [u32; 256],
-    surplus: [u32; 128],
-    deficit: [u32; 128],
-    group: [u8; 16],
-    left: u32,
-) -> Moved
-    ensures { λ r. ⌜ r ≡ record { ahead = ahead; back = back; surplus = surplus; deficit = deficit; group = group; left = left } ⌝ }
+fn outcome(latent: Latent, rest: Rest, group: [u8; 16], left: u32) -> Moved
+    ensures { λ r. ⌜ r ≡ record { latent = latent; rest = rest; group = group; left = left } ⌝ }
 {
     Moved {
-        ahead,
-        back,
-        surplus,
-        deficit,
+        latent,
+        rest,
         group,
         left,
     }
 }
 
+// Moves surplus to deficits until none is left or no route is.
+pub fn reroute(wires: Wires, mut latent: Latent, mut rest: Rest) -> Moved
+    requires { ⌜ Reroutable wires latent rest ⌝ }
+    ensures { λ r. ⌜ Reroutes wires latent rest r ⌝ }
+{
+    let mut row = roles(wires.buses, rest);
+    let surplus = rest.surplus;
+    let mut left = sum(wires.buses, surplus);
+    while left > 0 {
+        let work = Work {
+            marks: [0u16; 128],
+            queue: [0u8; 128],
+            latent,
+        };
+        let found = search::explore(wires, work, row);
+        let answer = found.answer;
+        latent = found.work.latent;
+        let Search::Route(goal, room, start) = answer else {
+            let group = found.group;
+            return outcome(latent, rest, group, left);
+        };
+        let marks = found.work.marks;
+        let s = rest.surplus[start];
+        let t = rest.deficit[goal];
+        let x = smaller(room, smaller(s, t));
+        latent = shift(wires, marks, latent, goal, x);
+        rest.surplus[start] = s - x;
+        rest.deficit[goal] = t - x;
+        row[start] = role(s - x, 0);
+        row[goal] = role(0, t - x);
+        left -= x;
+    }
+    outcome(latent, rest, [0u8; 16], left)
+}
+
 fn judge(moved: Moved) -> Judgement
     ensures { λ r. ⌜ Judged moved r ⌝ }
 {
-    let ahead = moved.ahead;
-    let back = moved.back;
+    let latent = moved.latent;
     let group = moved.group;
     let left = moved.left;
     let verdict = if left == 0 {
@@ -185,8 +163,7 @@ fn judge(moved: Moved) -> Judgement
     };
     Judgement {
         verdict,
-        ahead,
-        back,
+        latent,
         group,
     }
 }
@@ -208,10 +185,14 @@ pub fn base_flow(wires: Wires, limit: [u32; 256], gain: [u32; 128], load: [u32; 
 }
 
 // The flow of a lost branch is left as a surplus where it entered and as a deficit where it went.
-pub fn opened(near: usize, far: usize, l: u32, p: u32) -> Rest
-    requires { ⌜ Joint near far l p ⌝ }
-    ensures { λ r. ⌜ Opened near far l p (r .surplus) (r .deficit) ⌝ }
+pub fn rest_of(wires: Wires, limit: [u32; 256], latent: Latent, lost: usize) -> Rest
+    requires { ⌜ Losable wires limit latent lost ⌝ }
+    ensures { λ r. ⌜ Opened wires limit latent lost r ⌝ }
 {
+    let near = wires.first[lost] as usize;
+    let far = wires.second[lost] as usize;
+    let l = limit[lost];
+    let p = latent.ahead[lost];
     let mut surplus = [0u32; 128];
     let mut deficit = [0u32; 128];
     if p < l {
@@ -224,16 +205,21 @@ pub fn opened(near: usize, far: usize, l: u32, p: u32) -> Rest
     Rest { surplus, deficit }
 }
 
-// The same after one branch of a flow is lost: nothing goes over it any more, in neither direction.
-pub fn loss(wires: Wires, limit: [u32; 256], latent: Latent, lost: usize) -> Judgement
-    requires { ⌜ Losable wires limit (latent .ahead) (latent .back) lost ⌝ }
-    ensures { λ r. ⌜ Lost wires limit (latent .ahead) (latent .back) lost r ⌝ }
+// Nothing goes over a lost branch any more, in neither direction.
+pub fn without(mut latent: Latent, lost: usize) -> Latent
+    requires { ⌜ lost < 256 ⌝ }
+    ensures { λ r. ⌜ r ≡ cutAt latent lost ⌝ }
 {
-    let near = wires.first[lost] as usize;
-    let far = wires.second[lost] as usize;
-    let rest = opened(near, far, limit[lost], latent.ahead[lost]);
-    let mut cut = latent;
-    cut.ahead[lost] = 0;
-    cut.back[lost] = 0;
-    judge(reroute(wires, cut, rest))
+    latent.ahead[lost] = 0;
+    latent.back[lost] = 0;
+    latent
+}
+
+// The same as for the base flow, after one branch of a flow is lost.
+pub fn loss(wires: Wires, limit: [u32; 256], latent: Latent, lost: usize) -> Judgement
+    requires { ⌜ Losable wires limit latent lost ⌝ }
+    ensures { λ r. ⌜ Lost wires limit latent lost r ⌝ }
+{
+    let rest = rest_of(wires, limit, latent, lost);
+    judge(reroute(wires, without(latent, lost), rest))
 }

@@ -1,4 +1,3 @@
 pub mod Row
 pub mod Sum
 pub mod Bit
-pub mod Answer

@@ -2,6 +2,7 @@
 use mathlib.Core.Bool.{Bool, true, false, _&&_, _||_}
 use mathlib.Core.List.{List, [], _∷_, _++_}
 use Prim.Native.Nat.{ℕ, zero, suc, _+_, _*_}
+use lib.Dec.{eqb}
 use lib.ListN.{getD, take, drop}
 
 -- The number at place k, and 0 past the end.
@@ -24,6 +25,11 @@ headed n f l = upTo n f ++ drop n l
 -- t with s in the place of the n elements from a on: what a part lent out of the middle leaves.
 abbrev pub placed : {A : Type 0} → ℕ → ℕ → List A → List A → List A
 placed a n t s = take a t ++ (s ++ drop n (drop a t))
+
+-- n stands in the list.
+unfoldable pub member : ℕ → List ℕ → Bool
+member n [] = false
+member n (x ∷ xs) = eqb n x || member n xs
 
 -- p holds at some k below n; at every k below n.
 unfoldable pub some : ℕ → (ℕ → Bool) → Bool

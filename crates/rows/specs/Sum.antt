@@ -10,6 +10,17 @@ Group = ℕ → Bool
 abbrev pub all : Group
 all i = true
 
+-- Every group is admitted.
+abbrev pub any : Group → Bool
+any S = true
+
+-- Exactly one of the two.
+abbrev pub differ : Bool → Bool → Bool
+differ true true = false
+differ true false = true
+differ false true = true
+differ false false = false
+
 abbrev pub pick : Bool → ℕ → ℕ
 pick true x = x
 pick false x = 0

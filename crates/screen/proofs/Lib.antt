@@ -1,5 +1,1 @@
-pub mod Judging
-pub mod Rows
-pub mod Tables
-pub mod Opening
-pub mod Ending
+pub mod ScreenEnd

@@ -1,3 +1,1 @@
-pub mod Case
-pub mod State
 pub mod Promise

@@ -13,7 +13,7 @@ use lib.Seq.{getD-set-same, getD-set-other}
 use lib.Pow.{shr-shr}
 use Rattle.rows.specs.Row.{nth}
 use Rattle.rows.specs.Bit.{bitAt, has}
-use Rattle.search.specs.Search.{marked, Bits}
+use Rattle.search.specs.InsideSearch.{marked, Bits}
 use Rattle.search.specs.Inside.{flagOf, Byte}
 
 flag-below : (x : ℕ) → flagOf x < 2
@@ -40,23 +40,23 @@ shifted x b e h = sym (shr-shr (x * 2 + b) 1 e) ∙ ap (λ (y : ℕ). y / 2 ^ e)
     half = omega arith
 
 -- Of the byte at `at`, the first i bits stand in x.
-pub record Packing (m : List ℕ) (at x i : ℕ) : Type 0 where
+pub record FirstBits (m : List ℕ) (at x i : ℕ) : Type 0 where
   pub within : i ≤ 8
   pub low : x < 2 ^ i
   pub bit : (t : ℕ) → t < i → x / 2 ^ (i - 1 - t) % 2 ≡ flagOf (nth m (at + t))
 
-pub packing-none : {m : List ℕ} {at : ℕ} → Packing m at 0 0
-packing-none = record { within = omega arith; low = omega arith; bit = λ t l. absurd (omega arith) }
+pub first-bits-none : {m : List ℕ} {at : ℕ} → FirstBits m at 0 0
+first-bits-none = record { within = omega arith; low = omega arith; bit = λ t l. absurd (omega arith) }
 
-module _ {m : List ℕ} {at x i : ℕ} (P : Packing m at x i) (l : i < 8) where
-  pub packing-room : x < 128
-  packing-room = omega (arith, P .low, pow-le-pow-right {n = 2} (omega arith) {i = i} {j = 7} (omega arith))
+module _ {m : List ℕ} {at x i : ℕ} (P : FirstBits m at x i) (l : i < 8) where
+  pub first-bits-room : x < 128
+  first-bits-room = omega (arith, P .low, pow-le-pow-right {n = 2} (omega arith) {i = i} {j = 7} (omega arith))
 
-  pub packing-fits : {b : ℕ} → b ≡ flagOf (nth m (at + i)) → x * 2 + b < 256
-  packing-fits e = omega (arith, packing-room, flag-below (nth m (at + i)))
+  pub first-bits-fits : {b : ℕ} → b ≡ flagOf (nth m (at + i)) → x * 2 + b < 256
+  first-bits-fits e = omega (arith, first-bits-room, flag-below (nth m (at + i)))
 
-  pub packing-more : {b : ℕ} → b ≡ flagOf (nth m (at + i)) → Packing m at (x * 2 + b) (i + 1)
-  packing-more {b} e =
+  pub first-bits-more : {b : ℕ} → b ≡ flagOf (nth m (at + i)) → FirstBits m at (x * 2 + b) (i + 1)
+  first-bits-more {b} e =
       record {
         within = omega arith;
         low = rw add-one (omega (arith, P .low, two-pow-succ i, two));
@@ -74,22 +74,22 @@ module _ {m : List ℕ} {at x i : ℕ} (P : Packing m at x i) (l : i < 8) where
       new : (x * 2 + b) / 2 ^ (i + 1 - 1 - i) % 2 ≡ flagOf (nth m (at + i))
       new = let s : i + 1 - 1 - i ≡ 0 = omega arith in rw s (omega (arith, two))
 
-pub packing-end : {m : List ℕ} {at x i : ℕ} → Packing m at x i → 8 ≤ i → Byte m at x
-packing-end {i = i} P l =
+pub first-bits-end : {m : List ℕ} {at x i : ℕ} → FirstBits m at x i → 8 ≤ i → Byte m at x
+first-bits-end {i = i} P l =
     let e : i ≡ 8 = omega (arith, P .within) in
     record { low = rw e at (P .low); bit = λ t h. rw e at (P .bit t (omega arith)) }
 
 -- The first j bytes are filled.
-pub record Filling (m g : List ℕ) (j : ℕ) : Type 0 where
+pub record FirstBytes (m g : List ℕ) (j : ℕ) : Type 0 where
   pub within : j ≤ 16
   pub long : length g ≡ 16
   pub bytes : (i : ℕ) → i < j → Byte m (8 * i) (nth g i)
 
-pub filling-none : {m : List ℕ} → Filling m (replicate 16 0) 0
-filling-none = record { within = omega arith; long = refl; bytes = λ i l. absurd (omega arith) }
+pub first-bytes-none : {m : List ℕ} → FirstBytes m (replicate 16 0) 0
+first-bytes-none = record { within = omega arith; long = refl; bytes = λ i l. absurd (omega arith) }
 
-pub filling-more : {m g : List ℕ} {j x : ℕ} → Filling m g j → j < 16 → Byte m (8 * j) x → Filling m (set g j x) (j + 1)
-filling-more {m} {g} {j} {x} F l B =
+pub first-bytes-more : {m g : List ℕ} {j x : ℕ} → FirstBytes m g j → j < 16 → Byte m (8 * j) x → FirstBytes m (set g j x) (j + 1)
+first-bytes-more {m} {g} {j} {x} F l B =
     record {
       within = omega arith;
       long = length-set g j x ∙ F .long;
@@ -101,9 +101,9 @@ filling-more {m} {g} {j} {x} F l B =
           (rw (getD-set-same g j x 0 (omega (arith, F .long))) B);
     }
 
-pub filling-end : {m g : List ℕ} {j : ℕ} → Filling m g j → 16 ≤ j → Bits m g
+pub first-bytes-end : {m g : List ℕ} {j : ℕ} → FirstBytes m g j → 16 ≤ j → Bits m g
 unfolding bitAt
-filling-end {m} {g} F l = record { bit = each; byte = λ i h. F .bytes i (omega arith) .low }
+first-bytes-end {m} {g} F l = record { bit = each; byte = λ i h. F .bytes i (omega arith) .low }
   where
     each : (v : ℕ) → v < 128 → has g v ≡ marked m v
     each v h =

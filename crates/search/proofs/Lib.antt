@@ -1,8 +1,9 @@
-pub mod Rows
+pub mod Marking
 pub mod Links
 pub mod Tree
 pub mod Route
 pub mod Sowing
 pub mod Bytes
 pub mod Scan
-pub mod Answers
+pub mod MarkedReached
+pub mod Answering

@@ -9,12 +9,12 @@ use native.Mathlib.Decide.{ℕ-discrete}
 use lib.ListN.{length, set, replicate, length-set, getD-replicate}
 use lib.Seq.{getD-set-same, getD-set-other}
 use Rattle.rows.specs.Row.{nth}
-use Rattle.search.specs.Wires.{Wired, Touches, Met, at-first, at-second, Least, Linked, Wiring}
+use Rattle.search.specs.InsideLinks.{Linkable, Touches, Met, at-first, at-second, Least, Linked, Wiring}
 use Rattle.search.specs.declared.Wires.{Wires}
 
 -- The branches from k on are linked: h is `head`, x is `after`, z is `far`.
 pub record Chained (buses n : ℕ) (f s h x z : List ℕ) (k : ℕ) : Type 0 where
-  pub wired : Wired buses n f s
+  pub wired : Linkable buses n f s
   pub within : k ≤ n
   pub long : length h ≡ 128
   pub long-after : length x ≡ 512
@@ -26,9 +26,15 @@ pub record Chained (buses n : ℕ) (f s h x z : List ℕ) (k : ℕ) : Type 0 whe
   pub far-second : (j : ℕ) → k ≤ j → j < n → nth z (j + 256) ≡ nth f j
 
 none-left : (n : ℕ) (f s : List ℕ) (v : ℕ) → n ≤ 256 → Least n f s n v 512
-none-left n f s v l = record { top = omega arith; above = l; under = λ h. absurd (omega arith); met = λ h. absurd (omega arith); none = λ j a h b. absurd (omega arith) }
+none-left n f s v l = record {
+  top = omega arith;
+  above = l;
+  under = λ h. absurd (omega arith);
+  met = λ h. absurd (omega arith);
+  none = λ j a h b. absurd (omega arith);
+}
 
-pub chained-none : {buses n : ℕ} {f s : List ℕ} → Wired buses n f s → Chained buses n f s (replicate 128 512) (replicate 512 512) (replicate 512 0) n
+pub chained-none : {buses n : ℕ} {f s : List ℕ} → Linkable buses n f s → Chained buses n f s (replicate 128 512) (replicate 512 512) (replicate 512 0) n
 chained-none {buses} {n} {f} {s} w =
     record {
       wired = w;
@@ -135,7 +141,8 @@ module _ (buses n : ℕ) (f s h x z : List ℕ) (k : ℕ) (C : Chained buses n f
       now d = rw (← d, new-first x (C .long-after) k (nth h (nth f k)) (nth h (nth s k)) in-row) (C .lowest (nth f k) (C .wired .first-in k in-n))
 
       then : k + 1 ≤ j → Least n f s (j + 1) (nth f j) (nth (set (set x k (nth h (nth f k))) (k + 256) (nth h (nth s k))) j)
-      then d = rw (old x (C .long-after) k (nth h (nth f k)) (nth h (nth s k)) in-row j (omega arith) (omega (arith, C .wired .size))) (C .next-first j d l)
+      then d =
+          rw (old x (C .long-after) k (nth h (nth f k)) (nth h (nth s k)) in-row j (omega arith) (omega (arith, C .wired .size))) (C .next-first j d l)
 
   next-second′ : (j : ℕ) → k ≤ j → j < n → Least n f s (j + 1) (nth s j) (nth (set (set x k (nth h (nth f k))) (k + 256) (nth h (nth s k))) (j + 256))
   next-second′ j a l = ⊎-elim now then (low j a)
@@ -144,7 +151,8 @@ module _ (buses n : ℕ) (f s h x z : List ℕ) (k : ℕ) (C : Chained buses n f
       now d = rw (← d, new-second x (C .long-after) k (nth h (nth f k)) (nth h (nth s k)) in-row) (C .lowest (nth s k) (C .wired .second-in k in-n))
 
       then : k + 1 ≤ j → Least n f s (j + 1) (nth s j) (nth (set (set x k (nth h (nth f k))) (k + 256) (nth h (nth s k))) (j + 256))
-      then d = rw (old x (C .long-after) k (nth h (nth f k)) (nth h (nth s k)) in-row (j + 256) (omega (arith, in-row)) (omega arith)) (C .next-second j d l)
+      then d =
+          rw (old x (C .long-after) k (nth h (nth f k)) (nth h (nth s k)) in-row (j + 256) (omega (arith, in-row)) (omega arith)) (C .next-second j d l)
 
   far-first′ : (j : ℕ) → k ≤ j → j < n → nth (set (set z k (nth s k)) (k + 256) (nth f k)) j ≡ nth s j
   far-first′ j a l = ⊎-elim now then (low j a)
@@ -194,7 +202,8 @@ module _ {buses n : ℕ} {f s h x z : List ℕ} {k : ℕ} (C : Chained buses n f
   chain-falls = chained-more buses n f s h x z (k - 1) fallen
 
 -- What stands after a side: the next one at the same bus.
-pub after-least : (W : Wires) → Linked W → (k v side : ℕ) → k < W .branches → Met (W .first) (W .second) v k side → Least (W .branches) (W .first) (W .second) (k + 1) v (nth (W .after) side)
+pub after-least : (W : Wires) → Linked W → (k v side : ℕ) → k < W .branches → Met (W .first) (W .second) v k side
+    → Least (W .branches) (W .first) (W .second) (k + 1) v (nth (W .after) side)
 after-least W K k v side h (at-first e g) = rw (e, ← g) (K .next-first k h)
 after-least W K k v side h (at-second e g) = rw (e, ← g) (K .next-second k h)
 

@@ -7,11 +7,11 @@ use native.Mathlib.Omega.{arith}
 use borrow.Author.Tests.{eq-eqb, ne-eqb}
 use lib.ListN.{length}
 use Rattle.rows.specs.Row.{nth}
-use Rattle.search.specs.Search.{Scene, Way, Arc, Start, Joins, Path, stop, via, narrow, stops, Distinct, Trail}
-use Rattle.search.specs.Search.Way.{forth, back}
-use Rattle.search.specs.Search.Joins.{forth as ahead-of, back as back-of}
+use Rattle.search.specs.InsideSearch.{Scene, Way, Arc, Start, Joins, Path, stop, via, narrow, stops, Distinct, Trail}
+use Rattle.search.specs.InsideSearch.Way.{forth, back}
+use Rattle.search.specs.InsideSearch.Joins.{forth as ahead-of, back as back-of}
 use Rattle.search.specs.Inside.{Placed, root, joined, Tree}
-use Rattle.search.proofs.Rows.{distinct-cons}
+use Rattle.search.proofs.Marking.{distinct-cons}
 
 -- Two ways over one branch meet at an end.
 meet : (c u v c′ u′ v′ a b x y : ℕ) → Way c u a b x y v → Way c′ u′ a b x y v′ → (v ≡ v′) ⊎ (v ≡ u′)
@@ -25,11 +25,13 @@ joins c u a b x y v (forth p r s) = ahead-of p r
 joins c u a b x y v (back p r s) = back-of p r
 
 -- One branch more on the way back, from v to u.
-narrow-step : (f s a b : List ℕ) (k c u v : ℕ) (ks : List ℕ) → (u ≡ v → ⊥) → Way c u (nth f k) (nth s k) (nth a k) (nth b k) v → min (narrow f s a b u ks) c ≡ narrow f s a b v (k ∷ ks)
+narrow-step : (f s a b : List ℕ) (k c u v : ℕ) (ks : List ℕ) → (u ≡ v → ⊥) → Way c u (nth f k) (nth s k) (nth a k) (nth b k) v
+    → min (narrow f s a b u ks) c ≡ narrow f s a b v (k ∷ ks)
 narrow-step f s a b k c u v ks n (forth p r e) = rw (eq-eqb (nth s k) v r, p, e)
 narrow-step f s a b k c u v ks n (back p r e) = rw (ne-eqb (nth s k) v (λ g. n (sym p ∙ g)), p, e)
 
-stops-step : (f s : List ℕ) (c k u v x y : ℕ) (ks : List ℕ) → (u ≡ v → ⊥) → Way c u (nth f k) (nth s k) x y v → stops f s v (k ∷ ks) ≡ v ∷ stops f s u ks
+stops-step : (f s : List ℕ) (c k u v x y : ℕ) (ks : List ℕ) → (u ≡ v → ⊥) → Way c u (nth f k) (nth s k) x y v
+    → stops f s v (k ∷ ks) ≡ v ∷ stops f s u ks
 stops-step f s c k u v x y ks n (forth p r e) = rw (eq-eqb (nth s k) v r, p)
 stops-step f s c k u v x y ks n (back p r e) = rw (ne-eqb (nth s k) v (λ g. n (sym p ∙ g)), p)
 
@@ -72,7 +74,8 @@ module _ (N : Scene) (m q w o : List ℕ) (t : ℕ) (T : Tree N m q w o t) where
         record { hi = U .hi; lo = U .lo; c = U .c; under = omega arith; falls = U .falls; arc = U .arc }
 
     new-branch : (j : ℕ) → j < length (L .ks) → k ≡ nth (L .ks) j → ⊥
-    new-branch j l e = ⊎-elim (λ g. T .once (U .hi) p (omega (arith, U .under)) h (sym g)) (λ g. T .once (U .lo) p (omega (arith, U .under, U .falls)) h (sym g)) (meet _ _ _ _ _ _ _ _ _ _ (x .way) (same .way))
+    new-branch j l e =
+        ⊎-elim (λ g. T .once (U .hi) p (omega (arith, U .under)) h (sym g)) (λ g. T .once (U .lo) p (omega (arith, U .under, U .falls)) h (sym g)) (meet _ _ _ _ _ _ _ _ _ _ (x .way) (same .way))
       where
         U : Used N q (a + 1) (nth (L .ks) j)
         U = L .used j l

@@ -5,12 +5,12 @@ use mathlib.Core.Logic.{⊎-elim}
 use Prim.Native.Nat.{ℕ, _+_, _<_, _≤_}
 use native.Mathlib.Omega.{arith}
 use borrow.Author.Count.{below-more}
-use lib.ListN.{length, set, length-set}
+use lib.ListN.{length, set, replicate, length-set, getD-replicate}
 use lib.Seq.{getD-set-same, getD-set-other}
 use Rattle.rows.specs.Row.{nth}
-use Rattle.search.specs.Search.{Scene}
+use Rattle.search.specs.InsideSearch.{Scene}
 use Rattle.search.specs.Inside.{Tree, Blank, Seeded}
-use Rattle.search.proofs.Rows.{blank, either-place, still-positive}
+use Rattle.search.proofs.Marking.{blank, either-place, still-positive}
 use Rattle.search.proofs.Tree.{seed, grow}
 
 pub record Sow (n : ℕ) (roles m q o : List ℕ) (t v : ℕ) : Type 0 where
@@ -20,24 +20,25 @@ pub record Sow (n : ℕ) (roles m q o : List ℕ) (t v : ℕ) : Type 0 where
   pub slots : length q ≡ 128
   pub whole : length o ≡ 128
   pub less : t ≤ v
-  pub tree : (N : Scene) (w : List ℕ) → N .buses ≡ n → N .roles ≡ roles → length w ≡ 128 → ((u : ℕ) → u < 128 → nth w u ≡ 4294967295) → Tree N m q w o t
+  pub tree : (N : Scene) (w : List ℕ) → N .buses ≡ n → N .roles ≡ roles → length w ≡ 128 → ((u : ℕ) → u < 128 → nth w u ≡ 4294967295)
+      → Tree N m q w o t
   pub rest : (u : ℕ) → v ≤ u → nth m u ≡ 0
   pub seeds : (u : ℕ) → u < v → nth roles u ≡ 1 → 0 < nth m u
   pub apart : (u : ℕ) → 0 < nth m u → nth roles u ≡ 2 → ⊥
 
-pub sow-none : {n : ℕ} {roles m q o : List ℕ} → Blank n m q o → Sow n roles m q o 0 0
-sow-none B = rw (B .blank) (record {
+pub sow-none : {n : ℕ} {roles m q : List ℕ} → Blank n m → length q ≡ 128 → Sow n roles m q (replicate 128 0) 0 0
+sow-none B slots = rw (B .blank) (record {
   few = B .few;
   within = omega arith;
   long = refl;
-  slots = B .slots;
-  whole = B .whole;
+  slots = slots;
+  whole = refl;
   less = omega arith;
   tree = λ N w same roled wide full. record {
     long = refl;
-    slots = B .slots;
+    slots = slots;
     wide = wide;
-    whole = B .whole;
+    whole = refl;
     small = omega (arith, B .few);
     count = refl;
     bus = λ p h. absurd (omega arith);
@@ -111,5 +112,11 @@ module _ {n : ℕ} {roles m q o : List ℕ} {t v : ℕ} (S : Sow n roles m q o t
         no-goal : nth roles v ≡ 2 → ⊥
         no-goal r = omega arith
 
-pub sow-end : {n : ℕ} {roles m q o : List ℕ} {t v : ℕ} → Sow n roles m q o t v → n ≤ v → Seeded n roles m q o t
-sow-end S l = record { tree = S .tree; seeds = λ u b e. S .seeds u (omega arith) e; apart = S .apart }
+pub sow-end : {n : ℕ} {roles m q o : List ℕ} {t v : ℕ} → Sow n roles m q o t v → n ≤ v
+    → Seeded n roles (record { marks = m; queue = q; room = replicate 128 4294967295; origin = o; count = t })
+sow-end S l =
+    record {
+      tree = λ N same roled. S .tree N (replicate 128 4294967295) same roled refl (λ v h. getD-replicate 128 v 4294967295 0 h);
+      seeds = λ u b e. S .seeds u (omega arith) e;
+      apart = S .apart;
+    }

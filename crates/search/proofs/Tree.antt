@@ -9,10 +9,10 @@ use borrow.Author.Count.{below-more}
 use lib.ListN.{length, set, length-set}
 use lib.Seq.{getD-set-same, getD-set-other}
 use Rattle.rows.specs.Row.{nth}
-use Rattle.grid.specs.Reach.{Reach, here, onward}
-use Rattle.search.specs.Search.{Scene, Arc, Step, Start, Queued}
+use Rattle.grid.proofs.ReachBySteps.{Reach, here, onward}
+use Rattle.search.specs.InsideSearch.{Scene, Arc, Step, Start, Queued}
 use Rattle.search.specs.Inside.{Placed, root, joined, Tree}
-use Rattle.search.proofs.Rows.{zeros-set, either-place}
+use Rattle.search.proofs.Marking.{zeros-set, either-place}
 
 pub positive : (N : Scene) (m q w o : List ℕ) (p : ℕ) → Placed N m q w o p → 0 < nth m (nth q p)
 positive N m q w o p (root s e r i) = omega arith
@@ -21,7 +21,8 @@ positive N m q w o p (joined a k c l x e r i) = omega arith
 -- Why a bus may join: it is a start, or a branch leads to it from a queued bus.
 pub data New (N : Scene) (q w o : List ℕ) (t to val room from : ℕ) : Type 0 where
   seed : nth (N .roles) to ≡ 1 → val ≡ 1 → room ≡ 4294967295 → from ≡ to → New N q w o t to val room from
-  link : (j k c : ℕ) → j < t → Arc N k c (nth q j) to → val ≡ k + 2 → room ≡ min (nth w (nth q j)) c → from ≡ nth o (nth q j) → New N q w o t to val room from
+  link : (j k c : ℕ) → j < t → Arc N k c (nth q j) to → val ≡ k + 2 → room ≡ min (nth w (nth q j)) c → from ≡ nth o (nth q j)
+      → New N q w o t to val room from
 
 -- the rooms w become w′ and the origins o become o′, which differ at `to` alone
 module _ (N : Scene) (m q w w′ o o′ : List ℕ) (t to val : ℕ) (T : Tree N m q w o t) (b : to < N .buses) (z : nth m to ≡ 0) (pos : 0 < val)
@@ -57,11 +58,14 @@ module _ (N : Scene) (m q w w′ o o′ : List ℕ) (t to val : ℕ) (T : Tree N
   kept : (p : ℕ) → p < t → Placed N m q w o p → Placed N (set m to val) (set q t to) w′ o′ p
   kept p h (root s e r i) = root (rw (old-q p h) s) (rw (old-q p h, old-m p h) e) (rw (old-q p h, old-w p h) r) (rw (old-q p h, old-o p h) i)
   kept p h (joined a k c l x e r i) =
-      joined a k c l (rw (old-q a (omega arith), old-q p h) x) (rw (old-q p h, old-m p h) e) (rw (old-q p h, old-q a (omega arith), old-w p h, old-w a (omega arith)) r) (rw (old-q p h, old-q a (omega arith), old-o p h, old-o a (omega arith)) i)
+      joined a k c l (rw (old-q a (omega arith), old-q p h) x) (rw (old-q p h, old-m p h) e)
+      (rw (old-q p h, old-q a (omega arith), old-w p h, old-w a (omega arith)) r)
+      (rw (old-q p h, old-q a (omega arith), old-o p h, old-o a (omega arith)) i)
 
   fresh : New N q w o t to val (nth w′ to) (nth o′ to) → Placed N (set m to val) (set q t to) w′ o′ t
   fresh (seed s e r i) = root (rw new-q s) (rw (new-q, new-m) e) (rw new-q r) (rw new-q i)
-  fresh (link a k c l x e r i) = joined a k c l (rw (old-q a l, new-q) x) (rw (new-q, new-m) e) (rw (new-q, old-q a l, old-w a l) r) (rw (new-q, old-q a l, old-o a l) i)
+  fresh (link a k c l x e r i) =
+      joined a k c l (rw (old-q a l, new-q) x) (rw (new-q, new-m) e) (rw (new-q, old-q a l, old-w a l) r) (rw (new-q, old-q a l, old-o a l) i)
 
   lone : (i j : ℕ) → i < j → j < t + 1 → nth (set q t to) i ≡ nth (set q t to) j → ⊥
   lone i j l h e = ⊎-elim at-end before (eq-or-lt-of-le (omega arith))

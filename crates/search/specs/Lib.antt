@@ -1,3 +1,3 @@
-pub mod Wires
-pub mod Search
+pub mod InsideLinks
+pub mod InsideSearch
 pub mod Inside

@@ -1,10 +1,11 @@
 // A breadth-first search over the latent capacities of a network of at most 128 buses and 256 branches.
 // What is public here serves the crates above alone, which meet what it requires.
-ghost use Rattle.search.specs.Wires.{Wired, Wiring};
-ghost use Rattle.search.specs.Search.{choose, Bits, Searchable, Searched};
+ghost use Rattle.search.specs.InsideLinks.{Linkable, Wiring};
+ghost use Rattle.search.specs.InsideSearch.{Bits, Searchable, Searched};
 ghost use Rattle.search.specs.Inside.{Blank, Seeded, flagOf, Byte, Packed};
 ghost use Prim.Native.Nat.{_<_, _≤_, _+_, min};
 ghost use mathlib.Core.Path.{_≡_};
+ghost use mathlib.Core.Bool.{cond};
 ghost use lib.Dec.{ltb};
 
 // The ends of the branches, and links that give the branches of a bus in rising number.
@@ -20,20 +21,22 @@ pub struct Wires {
     pub far: [u8; 512],
 }
 
-// What one search works on: marks, all 0 at first, the queue, and the latent capacity of each branch either way.
-pub struct Work {
-    pub marks: [u16; 128],
-    pub queue: [u8; 128],
+// The latent capacity of each branch from its first end to its second, and back.
+pub struct Latent {
     pub ahead: [u32; 256],
     pub back: [u32; 256],
 }
 
+// What one search works on: marks, all 0 at first, the queue, and the latent capacities.
+pub struct Work {
+    pub marks: [u16; 128],
+    pub queue: [u8; 128],
+    pub latent: Latent,
+}
+
+// A route is its goal, its smallest latent capacity and its start.
 pub enum Search {
-    Route {
-        goal: usize,
-        room: u32,
-        start: usize,
-    },
+    Route(usize, u32, usize),
     Group,
 }
 
@@ -53,7 +56,7 @@ pub fn smaller(x: u32, y: u32) -> u32
 
 // From the highest branch down, so that `head` always holds the next side at its bus.
 pub fn link(buses: usize, branches: usize, first: [u8; 256], second: [u8; 256]) -> Wires
-    requires { ⌜ Wired buses branches first second ⌝ }
+    requires { ⌜ Linkable buses branches first second ⌝ }
     ensures { λ r. ⌜ Wiring buses branches first second r ⌝ }
 {
     let mut head = [512u16; 128];
@@ -83,23 +86,27 @@ pub fn link(buses: usize, branches: usize, first: [u8; 256], second: [u8; 256]) 
 }
 
 // The latent capacity of a branch away from the end where a side meets it: x ahead, y back.
-fn latent(side: usize, x: u32, y: u32) -> u32
-    ensures { λ r. ⌜ r ≡ choose (ltb side 256) x y ⌝ }
+fn away(side: usize, x: u32, y: u32) -> u32
+    ensures { λ r. ⌜ r ≡ cond (ltb side 256) x y ⌝ }
 {
     if side < 256 { x } else { y }
 }
 
-// Every start is marked 1, queued and its own origin; the answer is how many there are.
-fn seed(
-    buses: usize,
-    roles: &[u8; 128],
-    marks: &mut [u16; 128],
-    queue: &mut [u8; 128],
-    origin: &mut [u8; 128],
-) -> usize
-    requires { ⌜ Blank buses (now marks) (now queue) (now origin) ⌝ }
-    ensures { λ r. ⌜ Seeded buses (now (roles .entry)) (now (marks .exit)) (now (queue .exit)) (now (origin .exit)) r ⌝ }
+// What a search has marked so far; of each marked bus, `room` has the smallest latent capacity of the way to it and `origin` its start.
+struct Grown {
+    marks: [u16; 128],
+    queue: [u8; 128],
+    room: [u32; 128],
+    origin: [u8; 128],
+    count: usize,
+}
+
+// Every start is marked 1, queued and its own origin.
+fn seed(buses: usize, roles: [u8; 128], mut marks: [u16; 128], mut queue: [u8; 128]) -> Grown
+    requires { ⌜ Blank buses marks ⌝ }
+    ensures { λ r. ⌜ Seeded buses roles r ⌝ }
 {
+    let mut origin = [0u8; 128];
     let mut count: usize = 0;
     let mut v: usize = 0;
     while v < buses {
@@ -111,7 +118,13 @@ fn seed(
         }
         v += 1;
     }
-    count
+    Grown {
+        marks,
+        queue,
+        room: [4294967295u32; 128],
+        origin,
+        count,
+    }
 }
 
 fn flag(mark: u16) -> u8
@@ -121,9 +134,9 @@ fn flag(mark: u16) -> u8
 }
 
 // Eight marks as the bits of a byte, the first of them the highest.
-fn byte(marks: &[u16; 128], at: usize) -> u8
+fn byte(marks: [u16; 128], at: usize) -> u8
     requires { ⌜ at + 8 ≤ 128 ⌝ }
-    ensures { λ r. ⌜ Byte (now (marks .entry)) at r ⌝ }
+    ensures { λ r. ⌜ Byte marks at r ⌝ }
 {
     let mut x: u8 = 0;
     let mut i: usize = 0;
@@ -134,8 +147,8 @@ fn byte(marks: &[u16; 128], at: usize) -> u8
     x
 }
 
-fn bits(marks: &[u16; 128]) -> [u8; 16]
-    ensures { λ r. ⌜ Bits (now (marks .entry)) r ⌝ }
+fn bits(marks: [u16; 128]) -> [u8; 16]
+    ensures { λ r. ⌜ Bits marks r ⌝ }
 {
     let mut group = [0u8; 16];
     let mut j: usize = 0;
@@ -146,69 +159,63 @@ fn bits(marks: &[u16; 128]) -> [u8; 16]
     group
 }
 
-fn packed(answer: Search, taken: usize, work: Work) -> Found
-    ensures { λ r. ⌜ Packed answer taken work r ⌝ }
+// The work goes back as it came but for the marks and the queue: a new one would copy the capacities once more.
+fn packed(answer: Search, mut work: Work, tree: Grown) -> Found
+    ensures { λ r. ⌜ Packed answer work tree r ⌝ }
 {
+    let marks = tree.marks;
+    let queue = tree.queue;
     let group = match answer {
-        Search::Route {
-            goal: _,
-            room: _,
-            start: _,
-        } => [0u8; 16],
-        Search::Group => bits(&work.marks),
+        Search::Route(_, _, _) => [0u8; 16],
+        Search::Group => bits(marks),
     };
+    work.marks = marks;
+    work.queue = queue;
     Found {
         answer,
-        taken,
+        taken: tree.count,
         group,
         work,
     }
 }
 
 // From the buses of role 1, over latent capacity, to the first bus of role 2.
-pub fn explore(wires: Wires, mut work: Work, roles: [u8; 128]) -> Found
+pub fn explore(wires: Wires, work: Work, roles: [u8; 128]) -> Found
     requires { ⌜ Searchable wires work ⌝ }
     ensures { λ r. ⌜ Searched wires work roles r ⌝ }
 {
-    let mut marks = work.marks;
-    let mut queue = work.queue;
-    let mut origin = [0u8; 128];
-    let mut tail = seed(wires.buses, &roles, &mut marks, &mut queue, &mut origin);
-    let mut room = [4294967295u32; 128];
+    let marks = work.marks;
+    let queue = work.queue;
+    let latent = work.latent;
+    let mut tree = seed(wires.buses, roles, marks, queue);
     let mut at: usize = 0;
     let answer = 'scan: loop {
-        if at >= tail {
+        if at >= tree.count {
             break 'scan Search::Group;
         }
-        let here = queue[at] as usize;
-        let low = room[here];
+        let here = tree.queue[at] as usize;
+        let low = tree.room[here];
         let mut side = wires.head[here] as usize;
         while side < 512 {
             let k = side % 256;
             let to = wires.far[side] as usize;
-            let spare = latent(side, work.ahead[k], work.back[k]);
-            if spare > 0 && marks[to] == 0 {
+            let spare = away(side, latent.ahead[k], latent.back[k]);
+            if spare > 0 && tree.marks[to] == 0 {
                 let least = smaller(low, spare);
-                let start = origin[here] as usize;
-                marks[to] = (k + 2) as u16;
-                queue[tail] = to as u8;
-                room[to] = least;
-                origin[to] = start as u8;
-                tail += 1;
+                let start = tree.origin[here] as usize;
+                let tail = tree.count;
+                tree.marks[to] = (k + 2) as u16;
+                tree.queue[tail] = to as u8;
+                tree.room[to] = least;
+                tree.origin[to] = start as u8;
+                tree.count = tail + 1;
                 if roles[to] == 2 {
-                    break 'scan Search::Route {
-                        goal: to,
-                        room: least,
-                        start,
-                    };
+                    break 'scan Search::Route(to, least, start);
                 }
             }
             side = wires.after[side] as usize;
         }
         at += 1;
     };
-    // The work goes back as it came but for these two: a new one would copy the capacities once more.
-    work.marks = marks;
-    work.queue = queue;
-    packed(answer, tail, work)
+    packed(answer, work, tree)
 }

@@ -1,2 +1,2 @@
-pub mod Setting
+pub mod SetOrUnchanged
 pub mod Signed

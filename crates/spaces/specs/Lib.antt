@@ -1,2 +1,2 @@
-pub mod Stream
-pub mod Spaces
+pub mod InsideStream
+pub mod InsideSpaces

@@ -3,8 +3,8 @@ ghost use mathlib.Core.Path.{_≡_};
 ghost use Prim.Native.Nat.{_<_, _≤_};
 ghost use lib.ListN.{length};
 ghost use Rattle.rows.specs.Row.{nth};
-ghost use Rattle.spaces.specs.Stream.{fourAt, signedFrom};
-ghost use Rattle.spaces.specs.Spaces.{Spoilt, BookSet, PlaceSet, PlacesSet};
+ghost use Rattle.spaces.specs.InsideStream.{fourAt, signedFrom};
+ghost use Rattle.spaces.specs.InsideSpaces.{Spoilt, BookSet, PlaceSet, PlacesSet};
 
 mod stream;
 

@@ -2,7 +2,7 @@
 ghost use mathlib.Core.Path.{_≡_};
 ghost use Prim.Native.Nat.{_+_, _≤_, _<_};
 ghost use lib.ListN.{length};
-ghost use Rattle.spaces.specs.Stream.{fourAt, signedFrom};
+ghost use Rattle.spaces.specs.InsideStream.{fourAt, signedFrom};
 use rows::two;
 
 pub fn four(rest: &[u8], at: usize) -> u32

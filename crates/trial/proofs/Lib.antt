@@ -1,2 +1,3 @@
-pub mod Moving
+pub mod AskedNumber
+pub mod MovedToFront
 pub mod Written

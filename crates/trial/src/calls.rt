@@ -1,60 +1,57 @@
 // Commands that make a call and write its answer. Each answers how many bytes of the stream it took, and 0 where it is bad.
 ghost use mathlib.Core.Path.{_≡_};
-ghost use Prim.Native.Nat.{_+_, _*_, _<_, _≤_, max};
+ghost use Prim.Native.Nat.{_+_, _*_, _<_, _≤_};
 ghost use lib.ListN.{length, replicate};
 ghost use Rattle.rows.specs.Row.{headed};
-ghost use Rattle.spaces.specs.Stream.{fourAt};
-ghost use Rattle.trial.specs.Calls.{Ordered, Sized};
+ghost use Rattle.spaces.specs.InsideStream.{fourAt};
+ghost use Rattle.trial.specs.Inside.{Ordered, Sized};
 use crate::lines::answer_line;
 use crate::lines::branches_line;
 use crate::lines::hex_line;
 use crate::lines::signed_line;
-use rows::Answer;
-use rows::Outcome;
-use rows::two;
+use crate::numbers::number_at;
+use answer::Answer;
+use answer::Outcome;
 use rows::wide;
 use spaces::Next;
 use spaces::four;
 
 fn run_screen(rest: &[u8], book: &[u8], bytes: usize, flow: &mut [i32], table: &mut [u8]) -> usize
-    requires { ⌜ bytes ≤ length (now book) ⌝ }
+    requires { ⌜ (0 < length (now rest)) × (bytes ≤ length (now book)) ⌝ }
     ensures { λ r. ⌜ r ≤ length (now (rest .entry)) ⌝ }
 {
-    if rest.len() < 5 {
+    let a = number_at(rest, 1, flow.len());
+    let b = number_at(rest, a.end, table.len());
+    if b.end == 0 {
         return 0;
     }
-    let a = two(rest, 1);
-    let b = two(rest, 3);
-    if flow.len() < a {
-        return 0;
-    }
-    if table.len() < b {
-        return 0;
-    }
-    let answer = screen::screen(&book[..bytes], &mut flow[..a], &mut table[..b]);
+    let flows = a.value;
+    let records = b.value;
+    let answer = screen::screen(&book[0..bytes], &mut flow[0..flows], &mut table[0..records]);
     answer_line(b"screen", answer);
-    5
+    b.end
 }
 
 fn run_out(rest: &[u8], book: &mut [u8], bytes: usize, flow: &mut [i32], table: &mut [u8]) -> usize
-    requires { ⌜ bytes ≤ length (now book) ⌝ }
+    requires { ⌜ (0 < length (now rest)) × (bytes ≤ length (now book)) ⌝ }
     ensures { λ r. ⌜ r ≤ length (now (rest .entry)) ⌝ }
 {
-    if rest.len() < 7 {
+    let a = number_at(rest, 1, flow.len());
+    let b = number_at(rest, a.end, table.len());
+    let k = number_at(rest, b.end, 65535);
+    if k.end == 0 {
         return 0;
     }
-    let a = two(rest, 1);
-    let b = two(rest, 3);
-    if flow.len() < a {
-        return 0;
-    }
-    if table.len() < b {
-        return 0;
-    }
-    let branch = two(rest, 5);
-    let answer = outage::take_out(&mut book[..bytes], &mut flow[..a], &mut table[..b], branch);
+    let flows = a.value;
+    let records = b.value;
+    let answer = outage::take_out(
+        &mut book[0..bytes],
+        &mut flow[0..flows],
+        &mut table[0..records],
+        k.value,
+    );
     answer_line(b"out", answer);
-    7
+    k.end
 }
 
 fn run_read(
@@ -64,42 +61,76 @@ fn run_read(
     injections: &mut [i32],
     branches: &mut [u32],
 ) -> usize
-    requires { ⌜ (bytes ≤ length (now book)) × (length (now injections) ≤ 256) × (length (now branches) ≤ 1280) ⌝ }
+    requires { ⌜ (0 < length (now rest)) × (bytes ≤ length (now book)) × (length (now injections) ≤ 256) × (length (now branches) ≤ 1280) ⌝ }
     ensures { λ r. ⌜ r ≤ length (now (rest .entry)) ⌝ }
 {
-    if rest.len() < 5 {
+    let a = number_at(rest, 1, injections.len());
+    let b = number_at(rest, a.end, branches.len());
+    if b.end == 0 {
         return 0;
     }
-    let a = two(rest, 1);
-    let b = two(rest, 3);
-    if injections.len() < a {
-        return 0;
-    }
-    if branches.len() < b {
-        return 0;
-    }
-    let answer = book::read_book(&book[..bytes], &mut injections[..a], &mut branches[..b]);
+    let buses = a.value;
+    let numbers = b.value;
+    let answer = book::read_book(
+        &book[0..bytes],
+        &mut injections[0..buses],
+        &mut branches[0..numbers],
+    );
     answer_line(b"read", answer);
     signed_line(b"injections", injections);
     branches_line(branches);
-    5
+    b.end
 }
 
-// Writes a book of lent tables into lent bytes: accepted, the book has the written length.
-fn write(rest: &[u8], out: &mut [u8], bytes: usize, injections: &[i32], branches: &[u32]) -> usize
-    requires { ⌜ 13 ≤ length (now rest) ⌝ }
-    ensures { λ r. ⌜ r ≤ max bytes (length (now (out .entry))) ⌝ }
+// The first numbers of `W`, and the place after them: 0 where one is bad.
+struct Head {
+    buses: usize,
+    count: usize,
+    factor: u32,
+    end: usize,
+}
+
+fn head_of(rest: &[u8]) -> Head
+    requires { ⌜ 0 < length (now rest) ⌝ }
+    ensures { λ r. ⌜ r .end ≤ length (now (rest .entry)) ⌝ }
 {
-    let buses = two(rest, 1);
-    let count = two(rest, 3);
-    let factor = two(rest, 5) as u32;
-    let answer = book::write_book(buses, count, factor, injections, branches, out);
+    let buses = number_at(rest, 1, 65535);
+    let count = number_at(rest, buses.end, 65535);
+    let factor = number_at(rest, count.end, 65535);
+    Head {
+        buses: buses.value,
+        count: count.value,
+        factor: factor.value as u32,
+        end: factor.end,
+    }
+}
+
+// Writes a book of lent tables into the first bytes of the space: accepted, the book has the written length.
+fn write(
+    head: Head,
+    room: usize,
+    book: &mut [u8],
+    bytes: usize,
+    injections: &[i32],
+    branches: &[u32],
+) -> usize
+    requires { ⌜ (room ≤ length (now book)) × (bytes ≤ length (now book)) ⌝ }
+    ensures { λ r. ⌜ r ≤ length (now (book .entry)) ⌝ }
+{
+    let answer = pack::write_book(
+        head.buses,
+        head.count,
+        head.factor,
+        injections,
+        branches,
+        &mut book[0..room],
+    );
     answer_line(b"write", answer);
     let outcome = answer.outcome;
     let Outcome::Accepted = outcome else {
         return bytes;
     };
-    layout::bytes_for(buses, count)
+    layout::bytes_for(head.buses, head.count)
 }
 
 // `W`.
@@ -110,33 +141,28 @@ pub fn run_write(
     injections: &[i32],
     branches: &[u32],
 ) -> Next
-    requires { ⌜ bytes ≤ length (now book) ⌝ }
+    requires { ⌜ (0 < length (now rest)) × (bytes ≤ length (now book)) ⌝ }
     ensures { λ r. ⌜ (r .taken ≤ length (now (rest .entry))) × (r .bytes ≤ length (now (book .entry))) ⌝ }
 {
-    if rest.len() < 13 {
+    let head = head_of(rest);
+    let a = number_at(rest, head.end, injections.len());
+    let b = number_at(rest, a.end, branches.len());
+    let c = number_at(rest, b.end, book.len());
+    if c.end == 0 {
         return Next { taken: 0, bytes };
     }
-    let a = two(rest, 7);
-    let b = two(rest, 9);
-    let c = two(rest, 11);
-    if injections.len() < a {
-        return Next { taken: 0, bytes };
-    }
-    if branches.len() < b {
-        return Next { taken: 0, bytes };
-    }
-    if book.len() < c {
-        return Next { taken: 0, bytes };
-    }
+    let buses = a.value;
+    let numbers = b.value;
     let held = write(
-        rest,
-        &mut book[..c],
+        head,
+        c.value,
+        book,
         bytes,
-        &injections[..a],
-        &branches[..b],
+        &injections[0..buses],
+        &branches[0..numbers],
     );
     Next {
-        taken: 13,
+        taken: c.end,
         bytes: held,
     }
 }
@@ -213,7 +239,7 @@ fn run_meters(rest: &[u8], injections: &mut [i32]) -> usize
         return 0;
     }
     let supply = wide(rest[6]);
-    let answer = meter(rest, lists, supply, &mut injections[..lent]);
+    let answer = meter(rest, lists, supply, &mut injections[0..lent]);
     answer_line(b"meters", answer);
     signed_line(b"injections", injections);
     taken

@@ -6,6 +6,7 @@ ghost use Prim.Native.Nat.{_+_, _*_, _<_, _≤_};
 ghost use lib.ListN.{length};
 ghost use Rattle.line.specs.Text.{nextOf, numbersOf, signedsOf, hexesOf};
 ghost use Rattle.line.specs.AnswerText.{answerText};
+use answer::Answer;
 use line::put;
 use line::put_answer;
 use line::put_hexes;
@@ -13,7 +14,6 @@ use line::put_next;
 use line::put_numbers;
 use line::put_signeds;
 use line::write_line;
-use rows::Answer;
 
 // A word and the answer: its number, the shortage, the group.
 pub fn answer_line(word: &[u8], answer: Answer) -> usize

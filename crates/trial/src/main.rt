@@ -1,10 +1,11 @@
 // Runs calls from a stream on standard input and writes what they answer: docs/TRIAL.md has the table of its commands.
 ghost use Prim.Native.Nat.{_<_, _≤_};
 ghost use lib.ListN.{length};
-ghost use Rattle.trial.specs.Input.{Refilled};
+ghost use Rattle.trial.specs.Inside.{Refilled};
 
 mod calls;
 mod lines;
+mod numbers;
 
 use calls::run_call;
 use calls::run_write;

@@ -1,6 +1,6 @@
 -- Flows with the same difference on every branch are alike; the network without a branch is that of the case without it; bounds.
 use mathlib.Core.Path.{_≡_, refl, ap, fun-ext}
-use mathlib.Core.Bool.{Bool, true, false}
+use mathlib.Core.Bool.{Bool, true, false, cond}
 use Prim.Native.Nat.{ℕ, _+_, _≤_, _<_}
 use native.Mathlib.Omega.{arith}
 use lib.Dec.{eqb}
@@ -8,12 +8,13 @@ use Rattle.rows.specs.Sum.{Group, all, pick, over}
 use Rattle.rows.proofs.Sum.{over-add, over-same, over-le, pick-le, pick-part}
 use Rattle.quantity.specs.Signed.{posPart, negPart}
 use Rattle.quantity.proofs.Parts.{sum-parts}
-use Rattle.grid.specs.Net.{Net, crosses, gains, loads, unless, without}
-use Rattle.grid.specs.Flow.{Flow, Within, Balanced}
-use Rattle.grid.specs.Excess.{AtMost}
+use Rattle.grid.proofs.Net.{Net, crosses, gains, loads, without}
+use Rattle.grid.proofs.Flow.{Flow, Within, Balanced}
+use Rattle.grid.proofs.Excess.{AtMost}
 use Rattle.grid.proofs.Without.{at-most-without}
-use Rattle.verdict.specs.Case.{Case, Posed, choose, out, netOf}
-use Rattle.verdict.specs.Excess.{base, NoExcess, Short}
+use Rattle.verdict.specs.Case.{Case, Posed, out}
+use Rattle.verdict.specs.Excess.{NoExcess, Short}
+use Rattle.verdict.proofs.Plain.{netOf, base, no-excess-plain, short-plain}
 
 -- ---- Flows.
 abbrev pub SameFlow : Net → Flow → Flow → Type 0
@@ -38,7 +39,7 @@ balanced-alike N f g l d e b = record { bus = λ i u. omega (arith, b .bus i u, 
         )
 
 -- ---- Networks.
-out-limit : (t s : Bool) (x : ℕ) → unless t (pick s x) ≡ pick (choose t false s) x
+out-limit : (t s : Bool) (x : ℕ) → cond t 0 (pick s x) ≡ pick (cond t false s) x
 out-limit true s x = refl
 out-limit false s x = refl
 
@@ -66,7 +67,7 @@ shortage-limit C b v S p h u s =
     let whole : AtMost (netOf C (C .loss-limit)) S 0 =
     omega (
       arith,
-      h S,
+      no-excess-plain C .0 h S,
       over-le (C .branches) (crosses (base C) S) (crosses (base C) S) (base C .limit) (netOf C (C .loss-limit) .limit) (λ k w. pick-le (crosses (base C) S k) _ _ (pick-le (C .served k) _ _ (p .rising k w))),
     ) in
-    omega (arith, at-most-without (netOf C (C .loss-limit)) b S 0 u whole, s .smallest .reaches, pick-part (C .served b) (C .loss-limit b))
+    omega (arith, at-most-without (netOf C (C .loss-limit)) b S 0 u whole, short-plain C b v S .0 s .smallest .reaches, pick-part (C .served b) (C .loss-limit b))

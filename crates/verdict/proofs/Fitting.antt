@@ -1,6 +1,6 @@
 -- A fitting flow is a settled flow of the network, and the other way round; so no group has an excess.
 use mathlib.Core.Path.{_≡_, refl, ap}
-use mathlib.Core.Bool.{Bool, true, false}
+use mathlib.Core.Bool.{Bool, true, false, cond}
 use Prim.Native.Nat.{ℕ, _+_, _≤_, _<_}
 use native.Mathlib.Omega.{arith}
 use borrow.Author.Tests.{eq-eqb, ne-eqb}
@@ -10,11 +10,13 @@ use Rattle.rows.specs.Sum.{Group, pick}
 use Rattle.rows.proofs.Sum.{over-zero, over-same}
 use Rattle.quantity.specs.Signed.{posPart, negPart}
 use Rattle.quantity.proofs.Parts.{one-side, by-parts, minus, sum-parts, size-parts}
-use Rattle.grid.specs.Net.{Ends, crosses, ratings, unless, without}
-use Rattle.grid.specs.Flow.{Within, Balanced}
-use Rattle.grid.specs.Excess.{AtMost}
+use Rattle.grid.proofs.Net.{EndsThere, crosses, ratings, without}
+use Rattle.grid.proofs.Flow.{Within, Balanced}
+use Rattle.grid.proofs.Excess.{AtMost}
 use Rattle.grid.proofs.Cut.{Settled, upper}
-use Rattle.verdict.specs.Case.{Case, Posed, choose, withStatus, out, Fits, leaving, arriving, netOf, flowOf}
+use Rattle.verdict.specs.Case.{Case, Posed, withStatus, out, Fits, leaving, arriving}
+use Rattle.verdict.specs.Excess.{NoExcess}
+use Rattle.verdict.proofs.Plain.{netOf, flowOf, no-excess-plain}
 
 abbrev pub nothing : ℕ → ℕ
 nothing i = 0
@@ -45,11 +47,11 @@ module _ (C : Case) (b : ℕ) (s : Bool) where
 pub ratings-out : (C : Case) (b : ℕ) (limit : ℕ → ℕ) (S : Group) → ratings (netOf (out C b) limit) S ≡ ratings (without (netOf C limit) b) S
 ratings-out C b limit S = over-same _ _ _ _ _ (λ k u. ap (pick (crosses (netOf C limit) S k)) (one (eqb k b) (C .served k) (limit k)))
   where
-    one : (t s : Bool) (x : ℕ) → pick (choose t false s) x ≡ unless t (pick s x)
+    one : (t s : Bool) (x : ℕ) → pick (cond t false s) x ≡ cond t 0 (pick s x)
     one true s x = refl
     one false s x = refl
 
-pub ends : (C : Case) (limit : ℕ → ℕ) → Posed C → Ends (netOf C limit)
+pub ends : (C : Case) (limit : ℕ → ℕ) → Posed C → EndsThere (netOf C limit)
 ends C limit p = record { first-in = p .first-in; second-in = p .second-in }
 
 -- ---- Signs taken off, and put on again.
@@ -96,6 +98,10 @@ module _ (C : Case) (limit : ℕ → ℕ) (f : ℕ → ℤ) where
   -- No group of a case with a fitting flow has an excess above 0.
   pub none-above : Posed C → Fits C limit f → (S : Group) → AtMost (netOf C limit) S 0
   none-above p h S = omega (arith, upper (netOf C limit) (flowOf f) nothing nothing (fits-settled p h) S, over-zero (C .buses) S)
+
+-- A case with a fitting flow has no base excess.
+pub fits-none : (C : Case) (f : ℕ → ℤ) → Posed C → Fits C (C .limit) f → NoExcess C
+fits-none C f p h = no-excess-plain C .1 (none-above C (C .limit) f p h)
 
 -- A flow that keeps to limits keeps to higher ones.
 pub fits-more : (C : Case) (low high : ℕ → ℕ) (f : ℕ → ℤ) → ((k : ℕ) → k < C .branches → low k ≤ high k) → Fits C low f → Fits C high f

@@ -10,10 +10,11 @@ use lib.IntN.{ℤ, pos, natAbs, ℤ-discrete}
 use Rattle.rows.specs.Sum.{Group, pick, over}
 use Rattle.rows.proofs.Sum.{side, below, equal, above}
 use Rattle.quantity.specs.Signed.{posPart, negPart}
-use Rattle.grid.specs.Flow.{Balanced}
-use Rattle.verdict.specs.Case.{Case, Posed, out, Fits, netOf, flowOf}
+use Rattle.grid.proofs.Flow.{Balanced}
+use Rattle.verdict.specs.Case.{Case, Posed, out, Fits}
 use Rattle.verdict.specs.Excess.{Carries}
 use Rattle.verdict.specs.Record.{names, Rerouted}
+use Rattle.verdict.proofs.Plain.{netOf, flowOf}
 use Rattle.verdict.proofs.Fitting.{nothing, served-self, served-other, fits-balanced, balanced-bus}
 use Rattle.verdict.proofs.Loss.{fits-carries}
 

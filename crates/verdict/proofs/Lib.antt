@@ -1,6 +1,9 @@
+pub mod Plain
 pub mod Fitting
 pub mod Loss
-pub mod Unique
+pub mod VerdictByCase
 pub mod Keep
 pub mod Updates
 pub mod Alike
+pub mod Rest
+pub mod Shown

@@ -1,18 +1,19 @@
 -- What the loss of a branch comes to: the excess of all groups without it.
 use mathlib.Core.Path.{_≡_, refl, sym, ap, _∙_}
-use mathlib.Core.Bool.{Bool, true, false, false≢true}
+use mathlib.Core.Bool.{Bool, true, false, false≢true, cond}
 use mathlib.Core.Logic.{_↔_}
 use Prim.Native.Nat.{ℕ, zero, suc, _≤_, _<_}
 use native.Mathlib.Omega.{arith}
 use borrow.Author.Tests.{ne-eqb}
 use lib.Dec.{eqb}
 use lib.IntN.{ℤ}
-use Rattle.rows.specs.Sum.{Group, pick, over}
+use Rattle.rows.specs.Sum.{Group, any, pick, over}
 use Rattle.rows.proofs.Sum.{side, below, equal, above, over-same, over-le, pick-le}
-use Rattle.grid.specs.Net.{Net, crosses, ratings, unless}
-use Rattle.grid.specs.Excess.{Exceeds, AtMost, Smallest}
+use Rattle.grid.proofs.Net.{Net, crosses, ratings}
+use Rattle.grid.proofs.Excess.{Exceeds, AtMost, Smallest}
 use Rattle.verdict.specs.Case.{Case, Posed, out, Fits}
-use Rattle.verdict.specs.Excess.{base, NoExcess, Overload, lossNet, separates, Short, Carries, Spare}
+use Rattle.verdict.specs.Excess.{oneEnd, NoExcess, Overload, Short, Carries, Spare}
+use Rattle.verdict.proofs.Plain.{base, lossNet, PlainLargest, overload-plain, no-excess-plain, short-plain, carries-plain}
 use Rattle.verdict.proofs.Fitting.{ratings-out, none-above, posed-status}
 
 over-empty : (n : ℕ) (f : ℕ → ℕ) → over n (λ i. false) f ≡ 0
@@ -29,7 +30,7 @@ empty-smallest N h = record {
 }
 
 -- A group that holds both ends of b or neither loses nothing without b, and higher limits only add.
-joined-ratings : (C : Case) (b : ℕ) → Posed C → (S : Group) → separates C b S ≡ false → ratings (base C) S ≤ ratings (lossNet C b) S
+joined-ratings : (C : Case) (b : ℕ) → Posed C → (S : Group) → oneEnd C b S ≡ false → ratings (base C) S ≤ ratings (lossNet C b) S
 joined-ratings C b p S e =
     over-le (C .branches) (crosses (base C) S) (crosses (base C) S) (base C .limit) (lossNet C b .limit)
     (λ k u. elim (side k b) [ below l ↦ apart k u (λ q. omega arith) | equal l ↦ same k l | above l ↦ apart k u (λ q. omega arith) ])
@@ -41,56 +42,61 @@ joined-ratings C b p S e =
     same k q = rw (q, e) (omega arith)
 
 module _ (C : Case) (b : ℕ) (p : Posed C) (h : NoExcess C) where
-  joined : (R : Group) → separates C b R ≡ false → AtMost (lossNet C b) R 0
-  joined R e = omega (arith, h R, joined-ratings C b p R e)
+  joined : (R : Group) → oneEnd C b R ≡ false → AtMost (lossNet C b) R 0
+  joined R e = omega (arith, no-excess-plain C .0 h R, joined-ratings C b p R e)
 
-  everywhere : (v : ℕ) → ((R : Group) → separates C b R ≡ true → AtMost (lossNet C b) R v) → (R : Group) → AtMost (lossNet C b) R v
-  everywhere v m R = go (separates C b R) refl
+  everywhere : (v : ℕ) → ((R : Group) → oneEnd C b R ≡ true → AtMost (lossNet C b) R v) → (R : Group) → AtMost (lossNet C b) R v
+  everywhere v m R = go (oneEnd C b R) refl
     where
-      go : (t : Bool) → separates C b R ≡ t → AtMost (lossNet C b) R v
+      go : (t : Bool) → oneEnd C b R ≡ t → AtMost (lossNet C b) R v
       go true e = m R e
       go false e = omega (arith, joined R e)
 
-  apart-of : (v : ℕ) (R : Group) → 0 < v → Exceeds (lossNet C b) R v → separates C b R ≡ true
-  apart-of v R a r = go (separates C b R) refl
+  apart-of : (v : ℕ) (R : Group) → 0 < v → Exceeds (lossNet C b) R v → oneEnd C b R ≡ true
+  apart-of v R a r = go (oneEnd C b R) refl
     where
-      go : (t : Bool) → separates C b R ≡ t → separates C b R ≡ true
+      go : (t : Bool) → oneEnd C b R ≡ t → oneEnd C b R ≡ true
       go true e = e
       go false e = absurd (omega (arith, joined R e))
 
   -- Looking at the groups that hold exactly one end of b loses nothing.
-  pub short-is : (v : ℕ) (S : Group) → Short C b v S ↔ ((0 < v) × Smallest (lossNet C b) S v)
-  short-is v S = (
-    λ s. (
-      s .above,
-      record {
-        listed = refl;
-        reaches = s .smallest .reaches;
-        largest = λ R _. everywhere v (s .smallest .largest) R;
-        least = λ R _ e. s .smallest .least R (apart-of v R (s .above) e) e;
-      },
-    ),
-    λ m. record {
-      above = m .0;
-      smallest = record {
-        listed = apart-of v S (m .0) (m .1 .reaches);
-        reaches = m .1 .reaches;
-        largest = λ R _. m .1 .largest R refl;
-        least = λ R _ e. m .1 .least R refl e;
-      };
-    },
-  )
+  pub short-is : (v : ℕ) (S : Group) → Short C b v S ↔ PlainLargest (lossNet C b) any v S
+  short-is v S = (λ s. wider (short-plain C b v S .0 s), λ m. short-plain C b v S .1 (narrower m))
+    where
+      wider : PlainLargest (lossNet C b) (oneEnd C b) v S → PlainLargest (lossNet C b) any v S
+      wider s = record {
+        above = s .above;
+        smallest = record {
+          listed = refl;
+          reaches = s .smallest .reaches;
+          largest = λ R _. everywhere v (s .smallest .largest) R;
+          least = λ R _ e. s .smallest .least R (apart-of v R (s .above) e) e;
+        };
+        beyond = s .beyond;
+      }
+
+      narrower : PlainLargest (lossNet C b) any v S → PlainLargest (lossNet C b) (oneEnd C b) v S
+      narrower m = record {
+        above = m .above;
+        smallest = record {
+          listed = apart-of v S (m .above) (m .smallest .reaches);
+          reaches = m .smallest .reaches;
+          largest = λ R _. m .smallest .largest R refl;
+          least = λ R _ e. m .smallest .least R refl e;
+        };
+        beyond = m .beyond;
+      }
 
   pub carries-is : Carries C b ↔ ((R : Group) → AtMost (lossNet C b) R 0)
-  carries-is = (λ c. everywhere 0 c, λ m R _. m R)
+  carries-is = (λ c. everywhere 0 (carries-plain C b .0 c), λ m. carries-plain C b .1 (λ R _. m R))
 
 -- ---- Where a loss is judged by the limits of the base flow.
 abbrev pub Level : Case → Type 0
-Level C = (k : ℕ) → C .loss-limit k ≡ C .limit k
+Level C = C .loss-limit ≡ C .limit
 
 level-ratings : (C : Case) (b : ℕ) → Level C → (S : Group) → ratings (lossNet C b) S ≡ ratings (base (out C b)) S
 level-ratings C b l S =
-    over-same _ _ _ _ _ (λ k u. ap (λ (x : ℕ). pick (crosses (base C) S k) (unless (eqb k b) (pick (C .served k) x))) (l k))
+    over-same _ _ _ _ _ (λ k u. ap (λ (x : ℕ). pick (crosses (base C) S k) (cond (eqb k b) 0 (pick (C .served k) x))) (ap (λ (m : ℕ → ℕ). m k) l))
     ∙ sym (ratings-out C b (C .limit) S)
 
 smallest-by : (N M : Net) → ((S : Group) (v : ℕ) → Exceeds N S v ↔ Exceeds M S v) → ((S : Group) (v : ℕ) → AtMost N S v → AtMost M S v) → N .buses ≡ M .buses
@@ -117,13 +123,13 @@ module _ (C : Case) (b : ℕ) (l : Level C) where
   )
 
   pub spare-is : ((R : Group) → AtMost (lossNet C b) R 0) ↔ Spare C b
-  spare-is = (λ m R. level-most R 0 .0 (m R), λ m R. level-most R 0 .1 (m R))
+  spare-is = (λ m. no-excess-plain (out C b) .1 (λ R. level-most R 0 .0 (m R)), λ m R. level-most R 0 .1 (no-excess-plain (out C b) .0 m R))
 
 -- b is short by v, with the group S, exactly if the case without b is overloaded by v with the group S; it carries exactly if it may be spared.
-pub short-overload : (C : Case) (b v : ℕ) (S : Group) → Posed C → NoExcess C → Level C → ((i : ℕ) → C .buses ≤ i → S i ≡ false) → Short C b v S ↔ Overload (out C b) v S
-short-overload C b v S p h l z = (
-  λ s. let m = short-is C b p h v S .0 s in record { above = m .0; smallest = level-smallest C b l S v .0 (m .1); beyond = z },
-  λ o. short-is C b p h v S .1 (o .above, level-smallest C b l S v .1 (o .smallest)),
+pub short-overload : (C : Case) (b v : ℕ) (S : Group) → Posed C → NoExcess C → Level C → Short C b v S ↔ Overload (out C b) v S
+short-overload C b v S p h l = (
+  λ s. let m = short-is C b p h v S .0 s in overload-plain (out C b) v S .1 (record { above = m .above; smallest = level-smallest C b l S v .0 (m .smallest); beyond = m .beyond }),
+  λ o. let m = overload-plain (out C b) v S .0 o in short-is C b p h v S .1 (record { above = m .above; smallest = level-smallest C b l S v .1 (m .smallest); beyond = m .beyond }),
 )
 
 pub carries-spare : (C : Case) (b : ℕ) → Posed C → NoExcess C → Level C → Carries C b ↔ Spare C b
@@ -134,12 +140,12 @@ carries-spare C b p h l = (
 
 -- A branch carries if the case without it has a flow that fits the limits of a loss.
 pub fits-carries : (C : Case) (g : ℕ → ℤ) (b : ℕ) → Posed C → Fits (out C b) (C .loss-limit) g → Carries C b
-fits-carries C g b p h R _ =
-    omega (arith, none-above (out C b) (C .loss-limit) g (posed-status C b false p) h R, ratings-out C b (C .loss-limit) R)
+fits-carries C g b p h = carries-plain C b .1 (λ R _.
+    omega (arith, none-above (out C b) (C .loss-limit) g (posed-status C b false p) h R, ratings-out C b (C .loss-limit) R))
 
 -- A fitting flow and an overload exclude one another, and so do a carrying and a short branch.
 pub never-overload : (C : Case) (v : ℕ) (S : Group) → NoExcess C → Overload C v S → ⊥
-never-overload C v S h o = omega (arith, h S, o .smallest .reaches, o .above)
+never-overload C v S h o = let m = overload-plain C v S .0 o in omega (arith, no-excess-plain C .0 h S, m .smallest .reaches, m .above)
 
 pub never-both : (C : Case) (b v : ℕ) (S : Group) → Carries C b → Short C b v S → ⊥
-never-both C b v S c s = omega (arith, c S (s .smallest .listed), s .smallest .reaches, s .above)
+never-both C b v S c s = let m = short-plain C b v S .0 s in omega (arith, carries-plain C b .0 c S (m .smallest .listed), m .smallest .reaches, m .above)

@@ -1,15 +1,12 @@
 -- A case: the network that is judged, and the flows that fit it.
 use mathlib.Core.Path.{_≡_}
-use mathlib.Core.Bool.{Bool, true, false}
+use mathlib.Core.Bool.{Bool, true, false, cond}
 use mathlib.Core.List.{List}
 use Prim.Native.Nat.{ℕ, _≤_, _<_}
 use lib.Dec.{eqb}
 use lib.IntN.{ℤ, pos, natAbs, _-ℤ_}
 use lib.ListN.{getD}
-use Rattle.rows.specs.Sum.{all, pick, sum}
-use Rattle.quantity.specs.Signed.{posPart, negPart}
-use Rattle.grid.specs.Net.{Net}
-use Rattle.grid.specs.Flow.{Flow}
+use Rattle.rows.specs.Sum.{all, sum}
 
 -- Injections are signed kW, positive where power enters. A branch may be in service with limit 0 and still join its ends.
 pub record Case : Type 0 where
@@ -35,10 +32,6 @@ pub record Posed (C : Case) : Type 0 where
   pub rated : (k : ℕ) → k < C .branches → C .loss-limit k ≤ 1000000
   pub rising : (k : ℕ) → k < C .branches → C .limit k ≤ C .loss-limit k
 
-abbrev pub choose : Bool → Bool → Bool → Bool
-choose true x y = x
-choose false x y = y
-
 -- The case with the status of branch b changed; with b out of service.
 abbrev pub withStatus : Case → ℕ → Bool → Case
 withStatus C b s = record {
@@ -46,7 +39,7 @@ withStatus C b s = record {
   branches = C .branches;
   first = C .first;
   second = C .second;
-  served = λ k. choose (eqb k b) s (C .served k);
+  served = λ k. cond (eqb k b) s (C .served k);
   injection = C .injection;
   limit = C .limit;
   loss-limit = C .loss-limit;
@@ -65,23 +58,9 @@ leaving C f i = sum (C .branches) (λ k. eqb (C .first k) i) f
 abbrev pub arriving : Case → (ℕ → ℤ) → ℕ → ℤ
 arriving C f i = sum (C .branches) (λ k. eqb (C .second k) i) f
 
--- It fits if it is 0 on each branch out of service, within the limit on each other one, and at every bus what leaves less what arrives equals the injection.
+-- It fits if it is 0 on each branch out of service, within the limit on each other one, and at every bus what leaves less what arrives
+-- equals the injection.
 pub record Fits (C : Case) (limit : ℕ → ℕ) (f : ℕ → ℤ) : Type 0 where
   pub still : (k : ℕ) → k < C .branches → C .served k ≡ false → f k ≡ pos 0
   pub within : (k : ℕ) → k < C .branches → C .served k ≡ true → natAbs (f k) ≤ limit k
   pub bus : (i : ℕ) → i < C .buses → leaving C f i -ℤ arriving C f i ≡ C .injection i
-
--- The same without signs: gain and load are the parts of an injection, and a branch out of service may carry nothing.
-abbrev pub netOf : Case → (ℕ → ℕ) → Net
-netOf C limit = record {
-  buses = C .buses;
-  branches = C .branches;
-  first = C .first;
-  second = C .second;
-  limit = λ k. pick (C .served k) (limit k);
-  gain = λ i. posPart (C .injection i);
-  load = λ i. negPart (C .injection i);
-}
-
-abbrev pub flowOf : (ℕ → ℤ) → Flow
-flowOf f = record { ahead = λ k. posPart (f k); back = λ k. negPart (f k) }

@@ -11,22 +11,22 @@ use Rattle.rows.specs.Bit.{has}
 use Rattle.bits.specs.Field.{Bytes}
 use Rattle.rows.specs.Sum.{Group}
 use Rattle.verdict.specs.Case.{Case, out, on, Fits}
-use Rattle.verdict.specs.Excess.{carriesNumber, Short, Carries, shortNumber}
+use Rattle.verdict.specs.Excess.{Short, Carries}
 
 -- Record k is the part of 52 bytes from 52k.
 abbrev pub recordAt : List ℕ → ℕ → List ℕ
 recordAt table k = take 52 (drop (52 * k) table)
 
 -- Byte 0; bytes 1 to 3, high byte first; bytes 4 to 19; bytes 20 to 51.
-abbrev pub verdictOf : List ℕ → ℕ
-verdictOf rec = nth rec 0
+abbrev pub verdictIn : List ℕ → ℕ
+verdictIn rec = nth rec 0
 
-abbrev pub shortageOf : List ℕ → ℕ
-shortageOf rec = nth rec 1 * 65536 + nth rec 2 * 256 + nth rec 3
+abbrev pub shortageIn : List ℕ → ℕ
+shortageIn rec = nth rec 1 * 65536 + nth rec 2 * 256 + nth rec 3
 
 -- Bus k is bit 7 - k mod 8 of byte 4 + k / 8: a bit past the sixteen bytes is 0.
-abbrev pub groupOf : List ℕ → Group
-groupOf rec = has (take 16 (drop 4 rec))
+abbrev pub groupIn : List ℕ → Group
+groupIn rec = has (take 16 (drop 4 rec))
 
 abbrev pub names : List ℕ → Group
 names rec = has (take 32 (drop 20 rec))
@@ -43,12 +43,18 @@ pub record Rerouted (C : Case) (f : ℕ → ℤ) (b : ℕ) (rec : List ℕ) : Ty
   pub beyond : (j : ℕ) → C .branches ≤ j → names rec j ≡ false
   pub idle : f b ≡ pos 0 → (j : ℕ) → names rec j ≡ false
 
+-- The number of a verdict is a function of the case and the branch.
+abbrev pub carriesNumber : ℕ
+carriesNumber = 1
+
+abbrev pub shortNumber : Case → ℕ → ℕ
+shortNumber C b = 2
+
 -- Verdict 0: all else zero. Verdict 1: shortage and group zero. Verdict 2: reroute zero. Bits beyond the counts are 0.
 pub data Told (C : Case) (f : ℕ → ℤ) (k : ℕ) (rec : List ℕ) : Type 0 where
-  opened : C .served k ≡ false → verdictOf rec ≡ 0 → Zero rec 1 52 → Told C f k rec
-  carrying : C .served k ≡ true → Carries C k → verdictOf rec ≡ carriesNumber → Zero rec 1 20 → Rerouted C f k rec → Told C f k rec
-  lacking : C .served k ≡ true → Short C k (shortageOf rec) (groupOf rec) → verdictOf rec ≡ shortNumber C k
-      → ((i : ℕ) → C .buses ≤ i → groupOf rec i ≡ false) → Zero rec 20 52 → Told C f k rec
+  is-out : C .served k ≡ false → verdictIn rec ≡ 0 → Zero rec 1 52 → Told C f k rec
+  carries : C .served k ≡ true → Carries C k → verdictIn rec ≡ carriesNumber → Zero rec 1 20 → Rerouted C f k rec → Told C f k rec
+  short : C .served k ≡ true → Short C k (shortageIn rec) (groupIn rec) → verdictIn rec ≡ shortNumber C k → Zero rec 20 52 → Told C f k rec
 
 pub record TrueRecord (C : Case) (f : ℕ → ℤ) (k : ℕ) (rec : List ℕ) : Type 0 where
   pub long : length rec ≡ 52
@@ -61,10 +67,3 @@ pub record TrueTable (C : Case) (flow : List ℤ) (table : List ℕ) : Type 0 wh
   pub long : 52 * C .branches ≤ length table
   pub fits : Fits C (C .limit) (on flow)
   pub each : (k : ℕ) → k < C .branches → TrueRecord C (on flow) k (recordAt table k)
-
--- Lent space beyond the branch count: before a call, and after it.
-pub record Beyond (C : Case) (flow : List ℤ) (table : List ℕ) (flow′ : List ℤ) (table′ : List ℕ) : Type 0 where
-  pub flow-long : length flow′ ≡ length flow
-  pub flow-rest : (k : ℕ) → C .branches ≤ k → on flow′ k ≡ on flow k
-  pub table-long : length table′ ≡ length table
-  pub table-rest : (j : ℕ) → 52 * C .branches ≤ j → nth table′ j ≡ nth table j

@@ -1,3 +1,4 @@
+-- `byte` gives byte k, and 0 past the end.
 use borrow.Author.Needs.{needs}
 use native.Mathlib.Omega.{arith}
 use mathlib.Core.Path.{refl, sym}

@@ -1,3 +1,4 @@
+-- `field` gives the number in the bits from its place on, out of a window of four bytes.
 use borrow.Author.Needs.{needs}
 use native.Mathlib.Omega.{arith}
 use mathlib.Core.Path.{_≡_, _∙_}

@@ -1,3 +1,4 @@
+-- `put` leaves the low bits of the number in the bits from its place on: the last bit first, and each step by one law.
 use borrow.Author.Needs.{needs}
 use native.Mathlib.Omega.{arith}
 use native.Mathlib.Numerals.{sub-one}

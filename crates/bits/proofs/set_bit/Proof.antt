@@ -1,3 +1,4 @@
+-- `set_bit` makes one bit b; past the end nothing is changed.
 use borrow.Author.Needs.{needs}
 use mathlib.Core.Path.{sym}
 use lib.Seq.{set-out}

@@ -1,3 +1,4 @@
+-- `with_bit` changes one bit of a byte, and no step of it wraps.
 use borrow.Author.Needs.{needs}
 use native.Mathlib.Omega.{arith}
 use mathlib.Core.Path.{_∙_}

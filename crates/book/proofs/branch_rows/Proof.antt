@@ -1,7 +1,8 @@
+-- `branch_rows` fills the four rows with the book's branches.
 use borrow.Author.Needs.{needs}
 use native.Mathlib.Omega.{arith}
 use Prim.Native.Nat.{_-_}
-use Rattle.book.proofs.Branching.{Branching, branching-start, branching-more, branching-end, ends-fit}
+use Rattle.book.proofs.BranchRowsFilled.{Branching, branching-start, branching-more, branching-end, ends-fit}
 use Rattle.book.proofs.branch_rows.Statement.{statement}
 use Rattle.book.proofs.branch_rows.Tie as tie
 
@@ -33,14 +34,14 @@ array-write-second c = omega arith
 array-write-served : tie.Need-array-write-served Inv-loop μ-loop
 array-write-served c = omega arith
 
-limit-requires : tie.Need-limit-requires Inv-loop μ-loop
-limit-requires c κs = search needs
+limit-of-requires : tie.Need-limit-of-requires Inv-loop μ-loop
+limit-of-requires c κs = search needs
 
 mul-limit : tie.Need-mul-limit Inv-loop μ-loop
 mul-limit c = omega arith
 
-array-write-limit : tie.Need-array-write-limit Inv-loop μ-loop
-array-write-limit c = omega arith
+array-set-from-limit : tie.Need-array-set-from-limit Inv-loop μ-loop
+array-set-from-limit c = omega arith
 
 add-k : tie.Need-add-k Inv-loop μ-loop
 add-k c = omega arith
@@ -52,7 +53,7 @@ loop-again : tie.Need-loop-again Inv-loop μ-loop
 loop-again c =
     let x = c .before .before .before .before in
     let l = x .before in
-    branching-more _ _ _ _ _ _ _ _ _ _ _ (l .loop-test .taken) (l .before .before .before .pre .1) (l .before .loop .inv) (x .branch-at .ensures) (c .limit .ensures)
+    branching-more _ _ _ _ _ _ _ _ _ _ _ (l .loop-test .taken) (l .before .before .before .pre .1) (l .before .loop .inv) (x .branch-at .ensures) (c .limit-of .ensures)
 
 returns : tie.Need-returns Inv-loop μ-loop
 returns c = branching-end _ _ _ _ _ _ _ (c .loop-test .left) (c .before .loop .inv)
@@ -70,9 +71,9 @@ branch-rows-spec =
     cast-second
     array-write-second
     array-write-served
-    limit-requires
+    limit-of-requires
     mul-limit
-    array-write-limit
+    array-set-from-limit
     add-k
     loop-less
     loop-again

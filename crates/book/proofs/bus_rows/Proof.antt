@@ -1,3 +1,4 @@
+-- `bus_rows` fills the rows of what enters and what leaves.
 use borrow.Author.Needs.{needs, sfits-of}
 use native.Mathlib.Omega.{arith}
 use mathlib.Core.Path.{ap, _∙_}
@@ -7,7 +8,7 @@ use mir.Val.{SFits}
 use mir.Facts.{toZ-ofZ}
 use Rattle.quantity.specs.Signed.{posPart, negPart}
 use Rattle.layout.specs.Layout.{injectionAt}
-use Rattle.book.proofs.Tables.{Filling, fill-start, fill-more, fill-end}
+use Rattle.book.proofs.Filling.{Filling, fill-start, fill-more, fill-end}
 use Rattle.book.proofs.bus_rows.Statement.{statement}
 use Rattle.book.proofs.bus_rows.Tie as tie
 

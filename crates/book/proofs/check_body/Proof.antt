@@ -1,3 +1,4 @@
+-- `check_body` refuses 4 to 7 in order: each return by one law.
 use borrow.Author.Needs.{needs}
 use mathlib.Core.Path.{_≡_, sym, ap, _∙_}
 use borrow.Author.Tests.{not-true, not-false}
@@ -7,7 +8,7 @@ use Rattle.layout.specs.Layout.{bitsFor}
 use Rattle.layout.specs.declared.Fault.the-variants.{Sound}
 use Rattle.layout.specs.Fault.{firstFault}
 use Rattle.layout.specs.Check.{busFaultAt, branchFaultAt}
-use Rattle.book.proofs.Tests.{body-bus, body-branch, body-tail, body-sum, body-good}
+use Rattle.book.proofs.TestAnswers.{body-bus, body-branch, body-tail, body-sum, body-good}
 use Rattle.book.proofs.check_body.Statement.{statement}
 use Rattle.book.proofs.check_body.Tie as tie
 

@@ -1,7 +1,8 @@
+-- `check_head` refuses 1, 2, 3 and 1 in order: each return by one law.
 use borrow.Author.Needs.{needs}
 use mathlib.Core.Path.{sym, _∙_}
-use Rattle.layout.proofs.Accept.{in-range}
-use Rattle.book.proofs.Tests.{head-short, head-outside, head-spare, head-length, head-good}
+use Rattle.layout.proofs.AcceptedWhere.{in-range}
+use Rattle.book.proofs.TestAnswers.{head-short, head-outside, head-spare, head-length, head-good}
 use Rattle.book.proofs.check_head.Statement.{statement}
 use Rattle.book.proofs.check_head.Tie as tie
 
@@ -22,9 +23,6 @@ returns-2 c =
     let o = c .before .before in
     c .refuse2 .ensures ∙ head-outside _ _ (o .before .before .before .pre) (o .before .if1 .left) (sym (o .is-outside .ensures) ∙ c .before .if2 .taken)
 
-field-requires : tie.Need-field-requires
-field-requires c κs = search needs
-
 refuse-requires-3 : tie.Need-refuse-requires-3
 refuse-requires-3 c κs = search needs
 
@@ -33,7 +31,7 @@ returns-3 c =
     let f = c .before .before in
     let o = f .before .before in
     c .refuse3 .ensures
-    ∙ head-spare _ _ (o .before .before .before .pre) (o .before .if1 .left) (sym (o .is-outside .ensures) ∙ f .before .if2 .left) (λ e. c .before .if3 .taken (f .field .ensures ∙ e))
+    ∙ head-spare _ _ (o .before .before .before .pre) (o .before .if1 .left) (sym (o .is-outside .ensures) ∙ f .before .if2 .left) (λ e. c .before .if3 .taken (o .before .before .before .pre .spare-is ∙ e))
 
 bytes-for-requires : tie.Need-bytes-for-requires
 bytes-for-requires c κs =
@@ -51,14 +49,14 @@ returns-4 c =
     let f = b .before .before in
     let o = f .before .before in
     c .refuse4 .ensures
-    ∙ head-length _ _ (o .before .before .before .pre) (o .before .if1 .left) (sym (o .is-outside .ensures) ∙ f .before .if2 .left) (sym (f .field .ensures) ∙ b .before .if3 .left) _ (b .bytes-for .ensures) (c .before .if4 .taken)
+    ∙ head-length _ _ (o .before .before .before .pre) (o .before .if1 .left) (sym (o .is-outside .ensures) ∙ f .before .if2 .left) (sym (o .before .before .before .pre .spare-is) ∙ b .before .if3 .left) _ (b .bytes-for .ensures) (c .before .if4 .taken)
 
 returns-5 : tie.Need-returns-5
 returns-5 c =
     let b = c .before in
     let f = b .before .before in
     let o = f .before .before in
-    head-good _ _ (o .before .before .before .pre) (o .before .if1 .left) (sym (o .is-outside .ensures) ∙ f .before .if2 .left) (sym (f .field .ensures) ∙ b .before .if3 .left) _ (b .bytes-for .ensures) (c .if4 .left)
+    head-good _ _ (o .before .before .before .pre) (o .before .if1 .left) (sym (o .is-outside .ensures) ∙ f .before .if2 .left) (sym (o .before .before .before .pre .spare-is) ∙ b .before .if3 .left) _ (b .bytes-for .ensures) (c .if4 .left)
 
 pub check-head-spec : {M : Type 1} → statement M
 check-head-spec =
@@ -69,7 +67,6 @@ check-head-spec =
     is-outside-requires
     refuse-requires-2
     returns-2
-    field-requires
     refuse-requires-3
     returns-3
     bytes-for-requires

@@ -1,9 +1,10 @@
+-- `check_with` refuses by the header first, then by what comes after it.
 use borrow.Author.Needs.{needs}
 use mathlib.Core.Path.{_≡_, refl, sym, _∙_}
-use Rattle.rows.specs.declared.Outcome.the-variants.{Accepted}
-use Rattle.rows.proofs.Refusals.{not-accepted, stands}
+use Rattle.answer.specs.declared.Outcome.the-variants.{Accepted}
+use Rattle.answer.proofs.Refusals.{not-accepted, stands}
 use Rattle.layout.specs.Check.{headCheck, checkOf}
-use Rattle.book.proofs.Tests.{head-range}
+use Rattle.book.proofs.TestAnswers.{head-range}
 use Rattle.book.proofs.check_with.Statement.{statement}
 use Rattle.book.proofs.check_with.Tie as tie
 

@@ -1,9 +1,10 @@
+-- `fill_branches` fills a table with four numbers a branch.
 use borrow.Author.Needs.{needs}
 use native.Mathlib.Omega.{arith}
 use Prim.Native.Nat.{_-_}
 use lib.ListN.{length-set}
 use Rattle.layout.specs.Layout.{branchAfter}
-use Rattle.book.proofs.Tables.{Tabling, table-start, table-turn, table-end}
+use Rattle.book.proofs.Filling.{Tabling, table-start, table-turn, table-end}
 use Rattle.book.proofs.fill_branches.Statement.{statement}
 use Rattle.book.proofs.fill_branches.Tie as tie
 
@@ -19,47 +20,38 @@ loop-holds c = table-start _ _ _
 branch-at-requires : tie.Need-branch-at-requires Inv-loop μ-loop
 branch-at-requires c κs = search needs
 
+mul-at : tie.Need-mul-at Inv-loop μ-loop
+mul-at c = omega arith
+
 mul-out : tie.Need-mul-out Inv-loop μ-loop
 mul-out c = omega arith
-
-mul-out-2 : tie.Need-mul-out-2 Inv-loop μ-loop
-mul-out-2 c = omega arith
 
 slice-write-out : tie.Need-slice-write-out Inv-loop μ-loop
 slice-write-out c = omega arith
 
-mul-out-3 : tie.Need-mul-out-3 Inv-loop μ-loop
-mul-out-3 c = omega arith
-
 add-out : tie.Need-add-out Inv-loop μ-loop
 add-out c = omega arith
 
-mul-out-4 : tie.Need-mul-out-4 Inv-loop μ-loop
-mul-out-4 c = omega arith
+mul-out-2 : tie.Need-mul-out-2 Inv-loop μ-loop
+mul-out-2 c = omega arith
 
 slice-write-out-2 : tie.Need-slice-write-out-2 Inv-loop μ-loop
 slice-write-out-2 c = simp length-set (omega arith)
 
-mul-out-5 : tie.Need-mul-out-5 Inv-loop μ-loop
-mul-out-5 c = omega arith
-
 add-out-2 : tie.Need-add-out-2 Inv-loop μ-loop
 add-out-2 c = omega arith
 
-mul-out-6 : tie.Need-mul-out-6 Inv-loop μ-loop
-mul-out-6 c = omega arith
+mul-out-3 : tie.Need-mul-out-3 Inv-loop μ-loop
+mul-out-3 c = omega arith
 
 slice-write-out-3 : tie.Need-slice-write-out-3 Inv-loop μ-loop
 slice-write-out-3 c = simp length-set (omega arith)
 
-mul-out-7 : tie.Need-mul-out-7 Inv-loop μ-loop
-mul-out-7 c = omega arith
-
 add-out-3 : tie.Need-add-out-3 Inv-loop μ-loop
 add-out-3 c = omega arith
 
-mul-out-8 : tie.Need-mul-out-8 Inv-loop μ-loop
-mul-out-8 c = omega arith
+mul-out-4 : tie.Need-mul-out-4 Inv-loop μ-loop
+mul-out-4 c = omega arith
 
 slice-write-out-4 : tie.Need-slice-write-out-4 Inv-loop μ-loop
 slice-write-out-4 c = simp length-set (omega arith)
@@ -89,20 +81,17 @@ fill-branches-spec =
     μ-loop
     loop-holds
     branch-at-requires
+    mul-at
     mul-out
-    mul-out-2
     slice-write-out
-    mul-out-3
     add-out
-    mul-out-4
+    mul-out-2
     slice-write-out-2
-    mul-out-5
     add-out-2
-    mul-out-6
+    mul-out-3
     slice-write-out-3
-    mul-out-7
     add-out-3
-    mul-out-8
+    mul-out-4
     slice-write-out-4
     add-k
     loop-less

@@ -1,10 +1,11 @@
+-- `fill_injections` fills a table with the injections.
 use borrow.Author.Needs.{needs, sfits-of}
 use native.Mathlib.Omega.{arith}
 use Prim.Native.Nat.{_-_}
 use mir.Syntax.{w32}
 use mir.Val.{SFits}
 use mir.Facts.{toZ-ofZ}
-use Rattle.book.proofs.Tables.{Filling, fill-start, fill-more, fill-end}
+use Rattle.book.proofs.Filling.{Filling, fill-start, fill-more, fill-end}
 use Rattle.layout.specs.Layout.{injectionAt}
 use Rattle.book.proofs.fill_injections.Statement.{statement}
 use Rattle.book.proofs.fill_injections.Tie as tie

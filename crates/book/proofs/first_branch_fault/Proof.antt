@@ -1,3 +1,4 @@
+-- `first_branch_fault` gives the first fault of the branches.
 use borrow.Author.Needs.{needs}
 use native.Mathlib.Omega.{arith}
 use mathlib.Core.Path.{_≡_, ap, _∙_}
@@ -6,7 +7,7 @@ use Rattle.layout.specs.declared.Branch.{Branch}
 use Rattle.layout.specs.Fault.{branchFault}
 use Rattle.layout.specs.Layout.{branchAfter}
 use Rattle.layout.specs.Check.{branchFaultAt}
-use Rattle.layout.proofs.Scan.{Scanned, scan-start, scan-more, scan-stop, scan-end}
+use Rattle.layout.proofs.FirstFault.{Scanned, scan-start, scan-more, scan-stop, scan-end}
 use Rattle.book.proofs.first_branch_fault.Statement.{statement}
 use Rattle.book.proofs.first_branch_fault.Tie as tie
 

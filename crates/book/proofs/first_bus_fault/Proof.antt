@@ -1,3 +1,4 @@
+-- `first_bus_fault` gives the first fault of the buses.
 use borrow.Author.Needs.{needs}
 use native.Mathlib.Omega.{arith}
 use mathlib.Core.Path.{_≡_, ap, _∙_}
@@ -5,7 +6,7 @@ use Prim.Native.Nat.{_-_}
 use Rattle.layout.specs.declared.Bus.{Bus}
 use Rattle.layout.specs.Fault.{busFault}
 use Rattle.layout.specs.Check.{busFaultAt}
-use Rattle.layout.proofs.Scan.{Scanned, scan-start, scan-more, scan-stop, scan-end}
+use Rattle.layout.proofs.FirstFault.{Scanned, scan-start, scan-more, scan-stop, scan-end}
 use Rattle.book.proofs.first_bus_fault.Statement.{statement}
 use Rattle.book.proofs.first_bus_fault.Tie as tie
 

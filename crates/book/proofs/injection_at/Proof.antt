@@ -1,3 +1,4 @@
+-- `injection_at` gives the signed number of bus k.
 use borrow.Author.Needs.{needs, sfits-of}
 use native.Mathlib.Omega.{arith}
 use mathlib.Core.Path.{ap, _∙_}
@@ -7,7 +8,7 @@ use mir.Syntax.{w32}
 use mir.Val.{SFits}
 use mir.Facts.{toZ-ofZ}
 use Rattle.quantity.specs.Signed.{ofSize}
-use Rattle.bits.proofs.Bits.{field-lt}
+use Rattle.bits.proofs.ReadAsPut.{field-lt}
 use Rattle.layout.specs.declared.Bus.{Bus}
 use Rattle.book.proofs.injection_at.Statement.{statement}
 use Rattle.book.proofs.injection_at.Tie as tie

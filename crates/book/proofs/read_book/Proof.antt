@@ -1,11 +1,12 @@
+-- `read_book` keeps its promise: a refusal leaves both tables, and an accepted book fills them.
 use borrow.Author.Needs.{needs}
 use native.Mathlib.Omega.{arith}
 use mathlib.Core.Path.{sym, _∙_}
-use Rattle.rows.proofs.Refusals.{not-accepted}
+use Rattle.answer.proofs.Refusals.{not-accepted}
 use Rattle.bits.specs.Field.{Bytes}
-use Rattle.layout.proofs.Accept.{InRange}
-use Rattle.book.proofs.CaseLaws.{head-in-range}
-use Rattle.book.proofs.Reading.{read-refused, read-few-injections, read-few-branches, read-done}
+use Rattle.layout.proofs.AcceptedWhere.{InRange}
+use Rattle.book.proofs.RowsHoldBook.{head-in-range}
+use Rattle.book.proofs.ReadEnds.{read-refused, read-few-injections, read-few-branches, read-done}
 use Rattle.book.proofs.read_book.Statement.{statement}
 use Rattle.book.proofs.read_book.Tie as tie
 

@@ -1,4 +1,5 @@
-use Rattle.book.proofs.CaseLaws.{head-in-range, rows-read}
+-- `rows_with` gives rows that hold an accepted book.
+use Rattle.book.proofs.RowsHoldBook.{head-in-range, rows-read}
 use Rattle.book.proofs.rows_with.Statement.{statement}
 use Rattle.book.proofs.rows_with.Tie as tie
 

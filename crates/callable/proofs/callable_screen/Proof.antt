@@ -1,5 +1,7 @@
+-- The answer of the call in three parts.
 use borrow.Author.Needs.{needs}
 use mathlib.Core.Path.{_≡_, refl, sym}
+use Rattle.screen.proofs.ScreenEnd.{screen-proper}
 use Rattle.callable.proofs.callable_screen.Statement.{statement}
 use Rattle.callable.proofs.callable_screen.Tie as tie
 
@@ -23,11 +25,12 @@ returns c =
     let answered = c .before .before .before .before .before .before .screen in
     record {
       answer = answered .result;
-      ends = answered .ensures;
+      ended = answered .ensures;
       said = record {
         number-is = sym (c .number-of .ensures);
         shortage-is = sym (c .before .shortage-of .ensures);
         group-is = refl;
+        proper = screen-proper (answered .ensures);
       };
     }
 

@@ -1,5 +1,7 @@
+-- The answer of the call in three parts.
 use borrow.Author.Needs.{needs}
 use mathlib.Core.Path.{_≡_, refl, sym}
+use Rattle.state.proofs.ProperAnswer.{ends-proper}
 use Rattle.callable.proofs.callable_take_out.Statement.{statement}
 use Rattle.callable.proofs.callable_take_out.Tie as tie
 
@@ -26,11 +28,12 @@ returns c =
     let answered = c .before .before .before .before .before .before .before .before .take-out in
     record {
       answer = answered .result;
-      ends = answered .ensures;
+      ended = answered .ensures;
       said = record {
         number-is = sym (c .number-of .ensures);
         shortage-is = sym (c .before .shortage-of .ensures);
         group-is = refl;
+        proper = ends-proper (answered .ensures);
       };
     }
 

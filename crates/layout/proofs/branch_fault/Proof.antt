@@ -1,3 +1,4 @@
+-- `branch_fault` gives the first field of a branch that is at fault.
 use borrow.Author.Needs.{needs}
 use borrow.Author.Tests.{lt-ltb, le-ltb, le-leb, lt-leb, eq-eqb, ne-eqb}
 use Rattle.layout.specs.Fault.{branchFault}

@@ -1,3 +1,4 @@
+-- `bus_fault` gives the field of a bus that is at fault.
 use borrow.Author.Tests.{lt-ltb, le-ltb, eq-eqb, ne-eqb}
 use Rattle.layout.specs.Fault.{busFault}
 use Rattle.layout.proofs.bus_fault.Statement.{statement}

@@ -1,3 +1,4 @@
+-- `is_outside` is true exactly where a count or the power factor is outside its range.
 use borrow.Author.Tests.{lt-ltb, le-ltb}
 use Rattle.layout.proofs.is_outside.Statement.{statement}
 use Rattle.layout.proofs.is_outside.Tie as tie

@@ -1,3 +1,4 @@
+-- `put` adds the bytes of a text.
 use native.Mathlib.Omega.{arith}
 use Prim.Native.Nat.{_-_}
 use lib.ListN.{length}

@@ -1,3 +1,4 @@
+-- `put_byte` adds one byte.
 use borrow.Author.Needs.{needs}
 use native.Mathlib.Omega.{arith}
 use Rattle.line.proofs.Adding.{added-byte}

@@ -1,9 +1,10 @@
+-- `put_decimal` adds the digits of a number, at most 20.
 use borrow.Author.Needs.{needs}
 use native.Mathlib.Omega.{arith}
 use mathlib.Core.Path.{_∙_}
 use Prim.Native.Nat.{_≤_}
 use Rattle.line.proofs.Adding.{added-same}
-use Rattle.line.proofs.Digits.{fewest-decimal, few-decimal}
+use Rattle.line.proofs.FewestDigits.{fewest-decimal, few-decimal}
 use Rattle.line.proofs.put_decimal.Statement.{statement}
 use Rattle.line.proofs.put_decimal.Tie as tie
 

@@ -1,10 +1,11 @@
+-- `put_hex` adds the two hex digits of a byte.
 use borrow.Author.Needs.{needs}
 use native.Mathlib.Omega.{arith}
 use mathlib.Core.Path.{_≡_, ap, _∙_}
 use Prim.Native.Nat.{ℕ}
 use Rattle.io.specs.Digits.{digits}
 use Rattle.line.proofs.Adding.{added-same}
-use Rattle.line.proofs.Digits.{hex-two}
+use Rattle.line.proofs.FewestDigits.{hex-two}
 use Rattle.line.proofs.put_hex.Statement.{statement}
 use Rattle.line.proofs.put_hex.Tie as tie
 

@@ -1,3 +1,4 @@
+-- `put_hexes` adds two hex digits for each byte.
 use borrow.Author.Needs.{needs}
 use native.Mathlib.Omega.{arith}
 use Prim.Native.Nat.{_-_}

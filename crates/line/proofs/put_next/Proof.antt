@@ -1,3 +1,4 @@
+-- `put_next` adds a space and a number.
 use borrow.Author.Needs.{needs}
 use native.Mathlib.Omega.{arith}
 use Rattle.line.proofs.Adding.{added-then}

@@ -1,3 +1,4 @@
+-- `put_numbers` adds each number with a space before it.
 use borrow.Author.Needs.{needs}
 use native.Mathlib.Omega.{arith}
 use Prim.Native.Nat.{_-_}
@@ -5,7 +6,7 @@ use lib.ListN.{length}
 use Rattle.line.proofs.Adding.{Joining, joining-none, joining-more, joined-all}
 use Rattle.rows.specs.Row.{nth}
 use Rattle.line.specs.Text.{nextOf}
-use Rattle.line.proofs.Digits.{length-next}
+use Rattle.line.proofs.FewestDigits.{length-next}
 use Rattle.line.proofs.put_numbers.Statement.{statement}
 use Rattle.line.proofs.put_numbers.Tie as tie
 

@@ -1,6 +1,7 @@
+-- `put_signed` adds a space and a signed number.
 use borrow.Author.Needs.{needs}
 use Rattle.line.proofs.Adding.{added-same, added-then}
-use Rattle.line.proofs.Digits.{signed-above, signed-below}
+use Rattle.line.proofs.FewestDigits.{signed-above, signed-below}
 use mir.Facts.{toZ-ofZ}
 use Rattle.line.proofs.put_signed.Statement.{statement}
 use Rattle.line.proofs.put_signed.Tie as tie

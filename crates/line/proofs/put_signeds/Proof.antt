@@ -1,3 +1,4 @@
+-- `put_signeds` adds each signed number with a space before it.
 use borrow.Author.Needs.{needs, sfits-of}
 use native.Mathlib.Omega.{arith}
 use Prim.Native.Nat.{_-_}
@@ -6,7 +7,7 @@ use Rattle.line.proofs.Adding.{Joining, joining-none, joining-more, joi
 use mathlib.Core.List.{_∷_}
 use lib.IntN.{pos}
 use Rattle.line.specs.Text.{signedOf}
-use Rattle.line.proofs.Digits.{length-signed}
+use Rattle.line.proofs.FewestDigits.{length-signed}
 use mir.Facts.{toZ-ofZ}
 use Rattle.line.proofs.put_signeds.Statement.{statement}
 use Rattle.line.proofs.put_signeds.Tie as tie

@@ -1,11 +1,12 @@
+-- `unpack` flags the buses of the group and counts them.
 use borrow.Author.Needs.{needs}
 use native.Mathlib.Omega.{arith}
 use mathlib.Core.Path.{sym, _∙_}
 use Prim.Native.Nat.{_-_}
 use mathlib.Core.Logic.{⊎-elim}
 use borrow.Author.Tests.{eq-eqb, ne-eqb}
-use Rattle.bits.proofs.Bits.{field-one}
-use Rattle.listing.proofs.Listing.{Listing, listing-none, listing-in, listing-out, listed}
+use Rattle.bits.proofs.ReadAsPut.{field-one}
+use Rattle.listing.proofs.UnpackedSoFar.{Listing, listing-none, listing-in, listing-out, listed}
 use Rattle.listing.proofs.unpack.Statement.{statement}
 use Rattle.listing.proofs.unpack.Tie as tie
 

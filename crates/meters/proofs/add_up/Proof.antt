@@ -1,3 +1,4 @@
+-- `add_up` gives what all buses but the supply import and export, or that an advance among them is too large.
 use borrow.Author.Needs.{needs}
 use native.Mathlib.Omega.{arith}
 use mathlib.Core.Path.{_≡_}
@@ -5,7 +6,7 @@ use Prim.Native.Nat.{_-_}
 use lib.ListN.{length}
 use mathlib.Core.Logic.{⊎-elim}
 use Rattle.meters.specs.Registers.{registers}
-use Rattle.meters.proofs.Adding.{Adding, adding-none, adding-supply, adding-more, far-import, far-export, added}
+use Rattle.meters.proofs.TotalsSoFar.{Adding, adding-none, adding-supply, adding-more, far-import, far-export, added}
 use Rattle.meters.proofs.add_up.Statement.{statement}
 use Rattle.meters.proofs.add_up.Tie as tie
 

@@ -1,3 +1,4 @@
+-- `fill` writes the injection of every bus, with the supply's own at its place.
 use borrow.Author.Needs.{needs, sfits-of}
 use native.Mathlib.Omega.{arith}
 use mathlib.Core.Path.{_≡_}

@@ -1,3 +1,4 @@
+-- `injections` keeps its promise: refusals 13 to 16 in order, then the injections, each end by one law.
 use borrow.Author.Needs.{needs, sfits-of}
 use native.Mathlib.Omega.{arith}
 use mathlib.Core.Path.{_≡_, sym, _∙_}
@@ -7,12 +8,12 @@ use mir.Syntax.{w32}
 use mir.Val.{SFits}
 use mir.Facts.{toZ-ofZ}
 use mathlib.Core.Logic.{inl, inr}
-use Rattle.rows.specs.declared.Outcome.the-variants.{Accepted}
+use Rattle.answer.specs.declared.Outcome.the-variants.{Accepted}
 use Rattle.meters.specs.Registers.{Registers, registers, buses, shape}
 use Rattle.meters.specs.Inside.{Even, totalsOf}
 use Rattle.meters.specs.declared.Totals.the-variants.{Sums}
-use Rattle.rows.proofs.Refusals.{not-accepted}
-use Rattle.meters.proofs.Judging.{shaped, summed, by-shape, by-supply, by-advance, by-range, by-injections}
+use Rattle.answer.proofs.Refusals.{not-accepted}
+use Rattle.meters.proofs.MeterAnswers.{shaped, summed, by-shape, by-supply, by-advance, by-range, by-injections}
 use Rattle.meters.proofs.injections.Statement.{statement}
 use Rattle.meters.proofs.injections.Tie as tie
 

@@ -1,3 +1,4 @@
+-- `shape` refuses lists of unequal lengths, of none or more than 128, and too little room: each early answer is the first test that fails.
 use borrow.Author.Needs.{needs}
 use borrow.Author.Tests.{eq-eqb, ne-eqb, lt-ltb, le-ltb}
 use Rattle.meters.proofs.shape.Statement.{statement}

@@ -1,33 +1,73 @@
+-- The outage call: its checks, the test of the lent flow, the reroute, and what is then written.
 use borrow.Author.Needs.{needs}
 use native.Mathlib.Omega.{arith}
 use mathlib.Core.Path.{_≡_, sym, ap, _∙_}
-use Prim.Native.Nat.{ℕ}
-use lib.ListN.{length}
+use mathlib.Core.Bool.{true}
 use mathlib.Core.List.{List}
-use Rattle.rows.specs.Answer.{bare}
+use Prim.Native.Nat.{ℕ, _*_, _<_, _≤_}
 use borrow.Author.Tests.{not-true, not-false}
 use lib.IntN.{ℤ}
-use Rattle.rows.specs.declared.Outcome.the-variants.{Accepted}
-use Rattle.rows.proofs.Refusals.{not-accepted}
+use lib.ListN.{length, take, drop}
+use Rattle.answer.specs.Answer.{bare}
+use Rattle.answer.specs.declared.Outcome.the-variants.{Accepted}
+use Rattle.answer.proofs.Refusals.{not-accepted}
+use Rattle.verdict.specs.Record.{recordAt}
+use Rattle.state.specs.Inside.{Poised}
 use Rattle.outage.specs.Promise.{takeCheck}
-use Rattle.outage.proofs.Ending.{ends-refused, may, plannable-here, sizes, count-here, lendable-here, ends-unfit, losable-here, ends-short, fillable-here, poised-here, ends-taken}
+use Rattle.outage.proofs.OutageEnds.{ends-refused, may, plannable-here, sizes, count-here, lendable-here, ends-unfit, losable-here, ends-short, fillable-here, poised-here, ends-taken}
 use Rattle.outage.proofs.take_out_counted.Statement.{statement}
 use Rattle.outage.proofs.take_out_counted.Tie as tie
 
+-- ---- Places, each from a later one.
+abbrev start : tie.After-enum-told → tie.Start
+start c = c .before .before .before .before .before .before
+
+abbrev told : tie.After-prepare → tie.After-enum-told
+told c = c .before .before .before
+
+abbrev prepared : tie.After-load → tie.After-prepare
+prepared c = c .before .before .before .before
+
+abbrev rows-made : tie.After-test → tie.After-prepare
+rows-made c = prepared (c .before .before)
+
+abbrev tested : tie.After-replace → tie.After-test
+tested c = c .before .before .before .before .before .before
+
+abbrev replaced : tie.After-cut → tie.After-replace
+replaced c = c .before .before .before .before .before .before .before .before .before
+
+abbrev cut-of : tie.After-fill-flow → tie.After-cut
+cut-of c = c .before .before .before .before
+
+-- ---- What was lent.
 abbrev bytes : tie.After-enum-told → List ℕ
-bytes c = c .before .before .before .before .before .before .args .book .now
+bytes c = start c .args .book .now
 
 abbrev lent-flow : tie.After-enum-told → List ℤ
-lent-flow c = c .before .before .before .before .before .before .args .flow .now
+lent-flow c = start c .args .flow .now
 
 abbrev lent-table : tie.After-enum-told → List ℕ
-lent-table c = c .before .before .before .before .before .before .args .table .now
+lent-table c = start c .args .table .now
 
 abbrev lost : tie.After-enum-told → ℕ
-lost c = c .before .before .before .before .before .before .args .branch
+lost c = start c .args .branch
 
+-- ---- What holds there.
 ok : (c : tie.After-enum-told) → takeCheck (bytes c) (length (lent-flow c)) (length (lent-table c)) (lost c) ≡ Accepted
 ok c = sym (c .before .before .check .ensures) ∙ c .enum-told .given .1
+
+sizes-at : (c : tie.After-prepare) → (c .prepare .result .wires .buses ≤ 128) × (c .prepare .result .wires .branches ≤ 256) × (lost (told c) < c .prepare .result .wires .branches)
+sizes-at c = let t = told c in sizes (bytes t) (lent-flow t) (lent-table t) (lost t) (ok t) _ (c .before .rows-of .ensures) _ (c .prepare .ensures)
+
+table-room : (c : tie.After-prepare) → 52 * c .prepare .result .wires .branches ≤ length (lent-table (told c))
+table-room c =
+    let t = told c in
+    omega (
+      arith,
+      may (bytes t) (lent-flow t) (lent-table t) (lost t) (ok t) .passes .table-room,
+      count-here (bytes t) (lent-flow t) (lent-table t) (lost t) (ok t) _ (c .before .rows-of .ensures) _ (c .prepare .ensures),
+    )
 
 group-long : (c : tie.After-replace) → length (c .replace .result .group) ≡ 16
 group-long c = search needs
@@ -38,6 +78,22 @@ served-long c = search needs
 live-long : (c : tie.After-prepare) → length (c .prepare .result .live) ≡ 256
 live-long c = search needs
 
+fitting : (c : tie.After-replace) → tested c .test .result .fits ≡ true
+fitting c = not-false _ (c .before .before .before .before .before .if1 .left)
+
+-- The rows that are left, as a state of the case without the branch.
+poised : (c : tie.After-fill-flow)
+    → Poised (rows-made (tested (replaced (cut-of c))) .prepare .result .wires) (cut-of c .before .closed .result) (cut-of c .cut .result) (replaced (cut-of c) .replace .result .latent)
+poised c =
+    let u = cut-of c in
+    let r = replaced u in
+    let x = tested r in
+    let m = rows-made x in
+    let t = told m in
+    poised-here (bytes t) (lent-flow t) (lent-table t) (lost t) (ok t) _ (m .before .rows-of .ensures) _ (m .prepare .ensures) _ (x .test .ensures) (fitting r) _ _ (r .replace .ensures)
+    (served-long m) (live-long m) (u .before .closed .ensures) (u .cut .ensures) (u .before .before .before .before .before .before .before .enum-told2 .given .1) _ (c .fill-flow .ensures)
+
+-- ---- The needs.
 check-requires : tie.Need-check-requires
 check-requires c κs = search needs
 
@@ -56,17 +112,18 @@ returns c = ends-refused _ _ _ _ _ (c .before .before .check .ensures) (not-acce
 rows-of-requires : tie.Need-rows-of-requires
 rows-of-requires c κs =
     let t = c .before in
-    may (bytes t) (lent-flow t) (lent-table t) (lost t) (ok t) .book
+    may (bytes t) (lent-flow t) (lent-table t) (lost t) (ok t) .passes .book
 
 prepare-requires : tie.Need-prepare-requires
 prepare-requires c κs =
     let t = c .before .before in
     plannable-here (bytes t) (lent-flow t) (lent-table t) (lost t) (ok t) _ (c .rows-of .ensures)
 
-fit-requires : tie.Need-fit-requires
-fit-requires c κs =
-    let t = c .before .before .before .before .before .before .before .before in
-    lendable-here (bytes t) (lent-flow t) (lent-table t) (lost t) (ok t) _ (c .before .before .before .before .before .before .rows-of .ensures) _ (c .before .before .before .before .before .prepare .ensures)
+test-requires : tie.Need-test-requires
+test-requires c κs =
+    let m = prepared (c .before) in
+    let t = told m in
+    lendable-here (bytes t) (lent-flow t) (lent-table t) (lost t) (ok t) _ (m .before .rows-of .ensures) _ (m .prepare .ensures)
 
 refuse-requires : tie.Need-refuse-requires
 refuse-requires c κs = search needs
@@ -82,19 +139,27 @@ same-length-3 c = search needs
 
 returns-2 : tie.Need-returns-2
 returns-2 c =
-    let t = c .before .before .before .before .before .before .before .before .before .before .before .before in
-    ends-unfit (bytes t) (lent-flow t) (lent-table t) (lost t) (ok t) _ (c .before .before .before .before .before .before .before .before .before .before .rows-of .ensures) _ (c .before .before .before .before .before .before .before .before .before .prepare .ensures) _ (c .before .before .before .fit .ensures) (not-true _ (c .before .before .if1 .taken)) (c .told2 .ensures .0 ∙ ap bare (c .before .refuse .ensures))
+    let x = c .before .before .before in
+    let m = rows-made x in
+    let t = told m in
+    ends-unfit (bytes t) (lent-flow t) (lent-table t) (lost t) (ok t) _ (m .before .rows-of .ensures) _ (m .prepare .ensures) _ (x .test .ensures) (not-true _ (c .before .before .if1 .taken))
+    (c .told2 .ensures .0 ∙ ap bare (c .before .refuse .ensures))
 
-reroute-at-requires : tie.Need-reroute-at-requires
-reroute-at-requires c κs =
-    let t = c .before .before .before .before .before .before .before .before .before .before .before .before in
-    let m = may (bytes t) (lent-flow t) (lent-table t) (lost t) (ok t) in
-    omega (arith, m .table-room, m .there)
+stretch-requires : tie.Need-stretch-requires
+stretch-requires c κs =
+    let m = rows-made (c .before .before .before) in
+    omega (arith, table-room m, sizes-at m)
+
+reroute-of-requires : tie.Need-reroute-of-requires
+reroute-of-requires c κs = c .stretch .ensures .long
 
 replace-requires : tie.Need-replace-requires
 replace-requires c κs =
-    let t = c .before .before .before .before .before .before .before .before .before .before .before .before .before in
-    losable-here (bytes t) (lent-flow t) (lent-table t) (lost t) (ok t) _ (c .before .before .before .before .before .before .before .before .before .before .before .rows-of .ensures) _ (c .before .before .before .before .before .before .before .before .before .before .prepare .ensures) _ (c .before .before .before .before .fit .ensures) (not-false _ (c .before .before .before .if1 .left))
+    let e = c .before .before .before .before in
+    let x = e .before in
+    let m = rows-made x in
+    let t = told m in
+    losable-here (bytes t) (lent-flow t) (lent-table t) (lost t) (ok t) _ (m .before .rows-of .ensures) _ (m .prepare .ensures) _ (x .test .ensures) (not-false _ (e .if1 .left))
 
 enum-known-verdict : tie.Need-enum-known-verdict
 enum-known-verdict c = search needs
@@ -113,47 +178,45 @@ same-length-6 c = search needs
 
 returns-3 : tie.Need-returns-3
 returns-3 c =
-    let t = c .before .before .before .before .before .before .before .before .before .before .before .before .before .before .before .before .before .before .before .before .before in
-    ends-short (bytes t) (lent-flow t) (lent-table t) (lost t) (ok t) _ (c .before .before .before .before .before .before .before .before .before .before .before .before .before .before .before .before .before .before .before .rows-of .ensures) _ (c .before .before .before .before .before .before .before .before .before .before .before .before .before .before .before .before .before .before .prepare .ensures) _ (c .before .before .before .before .before .before .before .before .before .before .before .before .fit .ensures) (not-false _ (c .before .before .before .before .before .before .before .before .before .before .before .if1 .left)) _ _ (c .before .before .before .before .before .before .before .replace .ensures) _ (c .before .before .before .verdict .given .1) (group-long (c .before .before .before .before .before .before .before)) (c .short .ensures)
+    let r = c .before .before .before .before .before in
+    let x = tested r in
+    let m = rows-made x in
+    let t = told m in
+    ends-short (bytes t) (lent-flow t) (lent-table t) (lost t) (ok t) _ (m .before .rows-of .ensures) _ (m .prepare .ensures) _ (x .test .ensures) (fitting r) _ _ (r .replace .ensures) _
+    (c .before .before .before .verdict .given .1) (group-long r) (c .short .ensures)
 
 enum-told-2 : tie.Need-enum-told-2
 enum-told-2 c = search needs
 
 touch-requires : tie.Need-touch-requires
-touch-requires c κs =
-    let t = c .before .before .before .before .before .before .before .before .before .before .before .before .before .before .before .before .before .before .before in
-    let s = sizes (bytes t) (lent-flow t) (lent-table t) (lost t) (ok t) _ (c .before .before .before .before .before .before .before .before .before .before .before .before .before .before .before .before .before .rows-of .ensures) _ (c .before .before .before .before .before .before .before .before .before .before .before .before .before .before .before .before .prepare .ensures) in
-    (s .1, s .2)
+touch-requires c κs = let s = sizes-at (rows-made (tested (c .before .before .before .before .before .before))) in (s .1, s .2)
 
 closed-requires : tie.Need-closed-requires
-closed-requires c κs =
-    let t = c .before .before .before .before .before .before .before .before .before .before .before .before .before .before .before .before .before .before .before .before .before in
-    let s = sizes (bytes t) (lent-flow t) (lent-table t) (lost t) (ok t) _ (c .before .before .before .before .before .before .before .before .before .before .before .before .before .before .before .before .before .before .before .rows-of .ensures) _ (c .before .before .before .before .before .before .before .before .before .before .before .before .before .before .before .before .before .before .prepare .ensures) in
-    omega (arith, s .1, s .2)
+closed-requires c κs = let s = sizes-at (rows-made (tested (c .before .before .before .before .before .before .before))) in omega (arith, s .1, s .2)
 
 cut-requires : tie.Need-cut-requires
-cut-requires c κs =
-    let t = c .before .before .before .before .before .before .before .before .before .before .before .before .before .before .before .before .before .before .before .before .before .before in
-    let s = sizes (bytes t) (lent-flow t) (lent-table t) (lost t) (ok t) _ (c .before .before .before .before .before .before .before .before .before .before .before .before .before .before .before .before .before .before .before .before .rows-of .ensures) _ (c .before .before .before .before .before .before .before .before .before .before .before .before .before .before .before .before .before .before .before .prepare .ensures) in
-    omega (arith, s .1, s .2)
+cut-requires c κs = let s = sizes-at (rows-made (tested (c .before .before .before .before .before .before .before .before))) in omega (arith, s .1, s .2)
+
+shortlist-requires : tie.Need-shortlist-requires
+shortlist-requires c κs = let m = rows-made (tested (replaced (c .before))) in (sizes-at m .1, table-room m)
 
 fill-flow-requires : tie.Need-fill-flow-requires
 fill-flow-requires c κs =
-    let t = c .before .before .before .before .before .before .before .before .before .before .before .before .before .before .before .before .before .before .before .before .before .before .before .before in
-    fillable-here (bytes t) (lent-flow t) (lent-table t) (lost t) (ok t) _ (c .before .before .before .before .before .before .before .before .before .before .before .before .before .before .before .before .before .before .before .before .before .before .rows-of .ensures) _ (c .before .before .before .before .before .before .before .before .before .before .before .before .before .before .before .before .before .before .before .before .before .prepare .ensures) _ (c .before .before .before .before .before .before .before .before .before .before .before .before .before .before .before .fit .ensures) (not-false _ (c .before .before .before .before .before .before .before .before .before .before .before .before .before .before .if1 .left)) _ _ (c .before .before .before .before .before .before .before .before .before .before .replace .ensures) (served-long (c .before .before .before .before .before .before .before .before .before .before .before .before .before .before .before .before .before .before .before .before .before)) (live-long (c .before .before .before .before .before .before .before .before .before .before .before .before .before .before .before .before .before .before .before .before .before)) (c .before .cut .ensures)
+    let u = c .before .before .before in
+    let r = replaced u in
+    let x = tested r in
+    let m = rows-made x in
+    let t = told m in
+    fillable-here (bytes t) (lent-flow t) (lent-table t) (lost t) (ok t) _ (m .before .rows-of .ensures) _ (m .prepare .ensures) _ (x .test .ensures) (fitting r) _ _ (r .replace .ensures)
+    (served-long m) (live-long m) (u .cut .ensures)
 
-refresh-requires : tie.Need-refresh-requires
-refresh-requires c κs =
-    let t = c .before .before .before .before .before .before .before .before .before .before .before .before .before .before .before .before .before .before .before .before .before .before .before .before .before .before .before in
-    let m = may (bytes t) (lent-flow t) (lent-table t) (lost t) (ok t) in (
-      poised-here (bytes t) (lent-flow t) (lent-table t) (lost t) (ok t) _ (c .before .before .before .before .before .before .before .before .before .before .before .before .before .before .before .before .before .before .before .before .before .before .before .before .before .rows-of .ensures) _ (c .before .before .before .before .before .before .before .before .before .before .before .before .before .before .before .before .before .before .before .before .before .before .before .before .prepare .ensures) _ (c .before .before .before .before .before .before .before .before .before .before .before .before .before .before .before .before .before .before .fit .ensures) (not-false _ (c .before .before .before .before .before .before .before .before .before .before .before .before .before .before .before .before .before .if1 .left)) _ _ (c .before .before .before .before .before .before .before .before .before .before .before .before .before .replace .ensures) (served-long (c .before .before .before .before .before .before .before .before .before .before .before .before .before .before .before .before .before .before .before .before .before .before .before .before)) (live-long (c .before .before .before .before .before .before .before .before .before .before .before .before .before .before .before .before .before .before .before .before .before .before .before .before)) (c .before .before .before .before .before .closed .ensures) (c .before .before .before .before .cut .ensures) (c .before .before .before .before .before .before .before .before .before .enum-told2 .given .1) _ (c .before .before .fill-flow .ensures),
-      omega (arith, m .table-room, count-here (bytes t) (lent-flow t) (lent-table t) (lost t) (ok t) _ (c .before .before .before .before .before .before .before .before .before .before .before .before .before .before .before .before .before .before .before .before .before .before .before .before .before .rows-of .ensures) _ (c .before .before .before .before .before .before .before .before .before .before .before .before .before .before .before .before .before .before .before .before .before .before .before .before .prepare .ensures)),
-    )
+rewrite-requires : tie.Need-rewrite-requires
+rewrite-requires c κs = let f = c .before .before in (poised f, table-room (rows-made (tested (replaced (cut-of f)))))
 
 set-status-requires : tie.Need-set-status-requires
 set-status-requires c κs =
-    let t = c .before .before .before .before .before .before .before .before .before .before .before .before .before .before .before .before .before .before .before .before .before .before .before .before .before .before .before .before .before .before .before in
-    let s = sizes (bytes t) (lent-flow t) (lent-table t) (lost t) (ok t) _ (c .before .before .before .before .before .before .before .before .before .before .before .before .before .before .before .before .before .before .before .before .before .before .before .before .before .before .before .before .before .rows-of .ensures) _ (c .before .before .before .before .before .before .before .before .before .before .before .before .before .before .before .before .before .before .before .before .before .before .before .before .before .before .before .before .prepare .ensures) in
+    let f = c .before .before .before .before .before .before in
+    let s = sizes-at (rows-made (tested (replaced (cut-of f)))) in
     (s .0, omega (arith, s .1, s .2), omega arith)
 
 told-requires-3 : tie.Need-told-requires-3
@@ -170,8 +233,17 @@ same-length-9 c = search needs
 
 returns-4 : tie.Need-returns-4
 returns-4 c =
-    let t = c .before .before .before .before .before .before .before .before .before .before .before .before .before .before .before .before .before .before .before .before .before .before .before .before .before .before .before .before .before .before .before .before .before .before .before in
-    ends-taken (bytes t) (lent-flow t) (lent-table t) (lost t) (ok t) _ (c .before .before .before .before .before .before .before .before .before .before .before .before .before .before .before .before .before .before .before .before .before .before .before .before .before .before .before .before .before .before .before .before .before .rows-of .ensures) _ (c .before .before .before .before .before .before .before .before .before .before .before .before .before .before .before .before .before .before .before .before .before .before .before .before .before .before .before .before .before .before .before .before .prepare .ensures) _ (c .before .before .before .before .before .before .before .before .before .before .before .before .before .before .before .before .before .before .before .before .before .before .before .before .before .before .fit .ensures) (not-false _ (c .before .before .before .before .before .before .before .before .before .before .before .before .before .before .before .before .before .before .before .before .before .before .before .before .before .if1 .left)) _ _ (c .before .before .before .before .before .before .before .before .before .before .before .before .before .before .before .before .before .before .before .before .before .replace .ensures) (served-long (c .before .before .before .before .before .before .before .before .before .before .before .before .before .before .before .before .before .before .before .before .before .before .before .before .before .before .before .before .before .before .before .before)) (live-long (c .before .before .before .before .before .before .before .before .before .before .before .before .before .before .before .before .before .before .before .before .before .before .before .before .before .before .before .before .before .before .before .before)) (c .before .before .before .before .before .before .before .before .before .before .before .before .before .closed .ensures) (c .before .before .before .before .before .before .before .before .before .before .before .before .cut .ensures) (c .before .before .before .before .before .before .before .before .before .before .before .before .before .before .before .before .before .enum-told2 .given .1) _ (c .before .before .before .before .before .before .before .before .before .before .fill-flow .ensures) _ (c .before .before .before .before .before .before .before .before .before .before .before .before .before .before .before .touch .ensures) (c .told3 .ensures .0) (c .told3 .ensures .1) (c .before .before .before .before .before .before .before .before .before .before .before .before .before .before .before .before .before .before .before .before .before .before .reroute-at .ensures) (c .before .before .before .set-status .ensures) (c .before .before .before .before .before .before .before .refresh .ensures)
+    let w = c .before .before .before .before .before .before .before in
+    let f = w .before .before .before in
+    let u = cut-of f in
+    let r = replaced u in
+    let x = tested r in
+    let m = rows-made x in
+    let t = told m in
+    ends-taken (bytes t) (lent-flow t) (lent-table t) (lost t) (ok t) _ (m .before .rows-of .ensures) _ (m .prepare .ensures) _ (x .test .ensures) (fitting r) _ _ (r .replace .ensures)
+    (served-long m) (live-long m) (u .before .closed .ensures) (u .cut .ensures) (u .before .before .before .before .before .before .before .enum-told2 .given .1) _ (f .fill-flow .ensures) _ (u .before .before .touch .ensures)
+    (c .told3 .ensures .0) (c .told3 .ensures .1) (r .before .reroute-of .ensures ∙ ap (λ (rec : List ℕ). take 32 (drop 20 rec)) (r .before .before .stretch .ensures .its-bytes))
+    (f .before .before .shortlist .ensures) (c .before .before .before .set-status .ensures) (w .rewrite .ensures)
 
 pub take-out-counted-spec : {M : Type 1} → statement M
 take-out-counted-spec =
@@ -184,13 +256,14 @@ take-out-counted-spec =
     returns
     rows-of-requires
     prepare-requires
-    fit-requires
+    test-requires
     refuse-requires
     told-requires-2
     same-length-2
     same-length-3
     returns-2
-    reroute-at-requires
+    stretch-requires
+    reroute-of-requires
     replace-requires
     enum-known-verdict
     short-requires
@@ -202,8 +275,9 @@ take-out-counted-spec =
     touch-requires
     closed-requires
     cut-requires
+    shortlist-requires
     fill-flow-requires
-    refresh-requires
+    rewrite-requires
     set-status-requires
     told-requires-3
     same-length-7

@@ -1,3 +1,4 @@
+-- `bus_of` gives the sign and size of an injection.
 use borrow.Author.Needs.{needs}
 use mir.Facts.{toZ-ofZ}
 use Rattle.pack.proofs.bus_of.Statement.{statement}

@@ -1,3 +1,4 @@
+-- `check_tables` refuses in the writer's order: each return by one law.
 use borrow.Author.Needs.{needs}
 use native.Mathlib.Omega.{arith}
 use mathlib.Core.Path.{_≡_, sym, _∙_}
@@ -6,9 +7,9 @@ use borrow.Author.Tests.{not-true, not-false}
 use Rattle.layout.specs.declared.Fault.the-variants.{Sound}
 use Rattle.layout.specs.Fault.{firstFault}
 use Rattle.layout.specs.Check.{outside}
-use Rattle.layout.proofs.Accept.{InRange, in-range}
+use Rattle.layout.proofs.AcceptedWhere.{InRange, in-range}
 use Rattle.pack.specs.Write.{entryFault, rowFault}
-use Rattle.pack.proofs.Writing.{write-outside, write-few-injections, write-few-branches, write-entry, write-row, write-sum, write-room, write-good}
+use Rattle.pack.proofs.Writable.{write-outside, write-few-injections, write-few-branches, write-entry, write-row, write-sum, write-room, write-good}
 use Rattle.pack.proofs.check_tables.Statement.{statement}
 use Rattle.pack.proofs.check_tables.Tie as tie
 

@@ -1,3 +1,4 @@
+-- `first_entry_fault` gives the first fault of the injections.
 use borrow.Author.Needs.{needs, sfits-of}
 use native.Mathlib.Omega.{arith}
 use mathlib.Core.Path.{_≡_, ap, _∙_}
@@ -7,7 +8,7 @@ use mir.Val.{SFits}
 use mir.Facts.{toZ-ofZ}
 use Rattle.layout.specs.declared.Bus.{Bus}
 use Rattle.layout.specs.Fault.{busFault}
-use Rattle.layout.proofs.Scan.{Scanned, scan-start, scan-more, scan-stop, scan-end}
+use Rattle.layout.proofs.FirstFault.{Scanned, scan-start, scan-more, scan-stop, scan-end}
 use Rattle.pack.specs.Write.{entry, entryFault}
 use Rattle.pack.proofs.first_entry_fault.Statement.{statement}
 use Rattle.pack.proofs.first_entry_fault.Tie as tie

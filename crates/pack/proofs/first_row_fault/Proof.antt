@@ -1,10 +1,11 @@
+-- `first_row_fault` gives the first fault of the branches.
 use borrow.Author.Needs.{needs}
 use native.Mathlib.Omega.{arith}
 use mathlib.Core.Path.{_≡_, ap, _∙_}
 use Prim.Native.Nat.{_-_}
 use Rattle.layout.specs.declared.Branch.{Branch}
 use Rattle.layout.specs.Fault.{branchFault}
-use Rattle.layout.proofs.Scan.{Scanned, scan-start, scan-more, scan-stop, scan-end}
+use Rattle.layout.proofs.FirstFault.{Scanned, scan-start, scan-more, scan-stop, scan-end}
 use Rattle.pack.specs.Write.{rowFault}
 use Rattle.pack.proofs.first_row_fault.Statement.{statement}
 use Rattle.pack.proofs.first_row_fault.Tie as tie

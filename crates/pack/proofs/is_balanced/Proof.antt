@@ -1,64 +1,37 @@
-use borrow.Author.Needs.{needs, sfits-of}
+-- `is_balanced` is true exactly where what enters is what leaves.
+use borrow.Author.Needs.{sfits-of}
 use native.Mathlib.Omega.{arith}
-use mathlib.Core.Path.{_≡_}
+use mathlib.Core.Path.{refl}
 use Prim.Native.Nat.{_-_}
 use mir.Syntax.{w32}
 use mir.Val.{SFits}
 use mir.Facts.{toZ-ofZ}
-use lib.IntN.{ℤ}
-use mathlib.Core.List.{List}
-use Rattle.quantity.specs.Signed.{posPart, negPart}
-use Rattle.layout.proofs.Tally.{Small, Tallied, tally-start, tally-more, tally-end}
+use Rattle.layout.proofs.Balanced.{Small, Tallied, tally-start, tally-room, tally-more, tally-end}
 use Rattle.pack.specs.Write.{entry}
-use Rattle.pack.proofs.Entries.{small-entries}
+use Rattle.pack.proofs.SmallEntries.{small-entries}
 use Rattle.pack.proofs.is_balanced.Statement.{statement}
 use Rattle.pack.proofs.is_balanced.Tie as tie
 
 abbrev Inv-loop : tie.InvT-loop
-Inv-loop injections buses enters₀ leaves₀ k₀ enters leaves k = Tallied (entry injections) buses k enters leaves
+Inv-loop injections buses sums₀ k₀ sums k = Tallied (entry injections) buses k sums × Small (entry injections) buses
 
 abbrev μ-loop : tie.MeasureT-loop
-μ-loop injections buses enters₀ leaves₀ k₀ enters leaves k = buses - k
+μ-loop injections buses sums₀ k₀ sums k = buses - k
 
 loop-holds : tie.Need-loop-holds Inv-loop μ-loop
-loop-holds c = tally-start _ _
+loop-holds c = (tally-start _ _ _ (refl, refl), small-entries (c .args .injections .now) _ (c .pre .0) (c .pre .2))
 
-mul-x : tie.Need-mul-x Inv-loop μ-loop
-mul-x c = omega arith
+mul-count-in : tie.Need-mul-count-in Inv-loop μ-loop
+mul-count-in c = omega arith
 
-shared-slice-copy-out-x : tie.Need-shared-slice-copy-out-x Inv-loop μ-loop
-shared-slice-copy-out-x c = omega arith
+shared-slice-copy-out-count-in : tie.Need-shared-slice-copy-out-count-in Inv-loop μ-loop
+shared-slice-copy-out-count-in c = omega arith
 
-above-requires : tie.Need-above-requires Inv-loop μ-loop
-above-requires c κs = search needs
-
-abbrev table : tie.At-loop Inv-loop μ-loop → List ℤ
-table c = c .before .args .injections .now
-
-small : (c : tie.At-loop Inv-loop μ-loop) → Small (entry (table c)) (c .before .args .buses)
-small c = small-entries (table c) (c .before .args .buses) (c .before .pre .0) (c .before .pre .2)
-
-fit : (c : tie.After-x Inv-loop μ-loop) → SFits w32 (entry (table (c .before .before)) (c .before .before .loop .k))
-fit c = sfits-of (c .x .given)
-
-up : (c : tie.After-above Inv-loop μ-loop) → c .above .result ≡ posPart (entry (table (c .before .before .before)) (c .before .before .before .loop .k))
-up c = rw (toZ-ofZ (fit (c .before))) at (c .above .ensures)
-
-down : (c : tie.After-below Inv-loop μ-loop) → c .below .result ≡ negPart (entry (table (c .before .before .before .before)) (c .before .before .before .before .loop .k))
-down c = rw (toZ-ofZ (fit (c .before .before))) at (c .below .ensures)
-
-add-enters : tie.Need-add-enters Inv-loop μ-loop
-add-enters c =
-    let l = c .before .before in
-    omega (arith, up c, small (l .before) .each (l .before .loop .k) (l .loop-test .taken))
-
-below-requires : tie.Need-below-requires Inv-loop μ-loop
-below-requires c κs = search needs
-
-add-leaves : tie.Need-add-leaves Inv-loop μ-loop
-add-leaves c =
-    let l = c .before .before .before in
-    omega (arith, down c, small (l .before) .each (l .before .loop .k) (l .loop-test .taken))
+count-in-requires : tie.Need-count-in-requires Inv-loop μ-loop
+count-in-requires c κs =
+    let l = c .before in
+    let fit : SFits w32 (entry (l .before .before .args .injections .now) (l .before .loop .k)) = sfits-of (c .count-in-arg .given) in
+    rw (toZ-ofZ fit) (tally-room _ _ _ _ (l .loop-test .taken) (l .before .loop .inv .1) (l .before .loop .inv .0))
 
 add-k : tie.Need-add-k Inv-loop μ-loop
 add-k c = omega arith
@@ -68,11 +41,14 @@ loop-less c = omega arith
 
 loop-again : tie.Need-loop-again Inv-loop μ-loop
 loop-again c =
-    let l = c .before .before .before in
-    tally-more _ _ _ _ _ _ _ (l .loop-test .taken) (small (l .before)) (l .before .loop .inv) (up (c .before)) (down c)
+    let x = c .before in
+    let l = x .before in
+    let fit : SFits w32 (entry (l .before .before .args .injections .now) (l .before .loop .k)) = sfits-of (x .count-in-arg .given) in
+    let v = l .before .loop .inv in
+    (tally-more _ _ _ _ _ (l .loop-test .taken) (v .1) (v .0) (rw (toZ-ofZ fit) at (c .count-in .ensures)), v .1)
 
 returns : tie.Need-returns Inv-loop μ-loop
-returns c = tally-end _ _ _ _ _ (c .loop-test .left) (c .before .loop .inv)
+returns c = tally-end _ _ _ _ (c .before .loop-test .left) (c .before .before .loop .inv .0)
 
 pub is-balanced-spec : {M : Type 1} → statement M
 is-balanced-spec =
@@ -81,12 +57,9 @@ is-balanced-spec =
     Inv-loop
     μ-loop
     loop-holds
-    mul-x
-    shared-slice-copy-out-x
-    above-requires
-    add-enters
-    below-requires
-    add-leaves
+    mul-count-in
+    shared-slice-copy-out-count-in
+    count-in-requires
     add-k
     loop-less
     loop-again

@@ -1,9 +1,11 @@
+-- `put_branches` puts the fields of every branch.
 use borrow.Author.Needs.{needs}
 use native.Mathlib.Omega.{arith}
+use mathlib.Core.Path.{ap}
 use Prim.Native.Nat.{_-_}
 use Rattle.layout.specs.Layout.{branchWidths, branchStart, branchValues}
 use Rattle.pack.specs.Write.{rowAt}
-use Rattle.pack.proofs.Packing.{Packing, packing-start, packing-more, packing-end, branch-put}
+use Rattle.pack.proofs.Packing.{Packing, packing-start, packing-more, packing-end}
 use Rattle.pack.proofs.put_branches.Statement.{statement}
 use Rattle.pack.proofs.put_branches.Tie as tie
 
@@ -19,29 +21,8 @@ loop-holds c = packing-start _ _ _ _ _
 row-at-requires : tie.Need-row-at-requires Inv-loop μ-loop
 row-at-requires c κs = search needs
 
-branch-place-requires : tie.Need-branch-place-requires Inv-loop μ-loop
-branch-place-requires c κs = search needs
-
-put-requires : tie.Need-put-requires Inv-loop μ-loop
-put-requires c κs = search needs
-
-add-put : tie.Need-add-put Inv-loop μ-loop
-add-put c = omega arith
-
-put-requires-2 : tie.Need-put-requires-2 Inv-loop μ-loop
-put-requires-2 c κs = omega arith
-
-add-put-2 : tie.Need-add-put-2 Inv-loop μ-loop
-add-put-2 c = omega arith
-
-put-requires-3 : tie.Need-put-requires-3 Inv-loop μ-loop
-put-requires-3 c κs = omega arith
-
-add-put-3 : tie.Need-add-put-3 Inv-loop μ-loop
-add-put-3 c = omega arith
-
-put-requires-4 : tie.Need-put-requires-4 Inv-loop μ-loop
-put-requires-4 c κs = omega arith
+put-branch-requires : tie.Need-put-branch-requires Inv-loop μ-loop
+put-branch-requires c κs = search needs
 
 add-k : tie.Need-add-k Inv-loop μ-loop
 add-k c = omega arith
@@ -51,15 +32,10 @@ loop-less c = omega arith
 
 loop-again : tie.Need-loop-again Inv-loop μ-loop
 loop-again c =
-    let c₄ = c .before .before in
-    let c₃ = c₄ .before .before .before .before in
-    let c₂ = c₃ .before .before .before .before in
-    let c₁ = c₂ .before .before .before .before in
-    let at = c₁ .before .before in
-    let x = at .before in
-    let l = x .before in
-    packing-more _ _ _ _ _ _ _ _ (l .loop-test .taken) (l .before .loop .inv)
-    (branch-put _ _ _ _ _ _ _ _ _ _ (at .branch-place .ensures) (c₁ .put .ensures) (c₂ .put2 .ensures) (c₃ .put3 .ensures) (c₄ .put4 .ensures) (x .row-at .ensures))
+    let p = c .before .before in
+    let x = p .before in
+    let l = x .before .before in
+    packing-more _ _ _ _ _ _ _ _ _ (l .loop-test .taken) (l .before .loop .inv) (ap branchValues (x .row-at .ensures)) (p .put-branch .ensures)
 
 same-length : tie.Need-same-length Inv-loop μ-loop
 same-length c = c .before .loop .inv .long
@@ -75,14 +51,7 @@ put-branches-spec =
     μ-loop
     loop-holds
     row-at-requires
-    branch-place-requires
-    put-requires
-    add-put
-    put-requires-2
-    add-put-2
-    put-requires-3
-    add-put-3
-    put-requires-4
+    put-branch-requires
     add-k
     loop-less
     loop-again

@@ -1,13 +1,16 @@
+-- `put_buses` puts the fields of every bus.
 use borrow.Author.Needs.{needs, sfits-of}
 use native.Mathlib.Omega.{arith}
+use mathlib.Core.Path.{ap}
 use Prim.Native.Nat.{_-_}
 use mir.Syntax.{w32}
 use mir.Val.{SFits}
 use mir.Facts.{toZ-ofZ}
 use lib.IntN.{ℤ}
+use Rattle.layout.specs.Inside.{busFields}
 use Rattle.layout.specs.Layout.{busWidths, busStart, busValues}
 use Rattle.pack.specs.Write.{entry}
-use Rattle.pack.proofs.Packing.{Packing, packing-start, packing-more, packing-end, bus-put}
+use Rattle.pack.proofs.Packing.{Packing, packing-start, packing-more, packing-end}
 use Rattle.pack.proofs.put_buses.Statement.{statement}
 use Rattle.pack.proofs.put_buses.Tie as tie
 
@@ -29,17 +32,8 @@ shared-slice-copy-out-bus-of c = omega arith
 bus-of-requires : tie.Need-bus-of-requires Inv-loop μ-loop
 bus-of-requires c κs = search needs
 
-bus-place-requires : tie.Need-bus-place-requires Inv-loop μ-loop
-bus-place-requires c κs = search needs
-
-put-requires : tie.Need-put-requires Inv-loop μ-loop
-put-requires c κs = search needs
-
-add-put : tie.Need-add-put Inv-loop μ-loop
-add-put c = omega arith
-
-put-requires-2 : tie.Need-put-requires-2 Inv-loop μ-loop
-put-requires-2 c κs = omega arith
+put-bus-requires : tie.Need-put-bus-requires Inv-loop μ-loop
+put-bus-requires c κs = search needs
 
 add-k : tie.Need-add-k Inv-loop μ-loop
 add-k c = omega arith
@@ -49,15 +43,12 @@ loop-less c = omega arith
 
 loop-again : tie.Need-loop-again Inv-loop μ-loop
 loop-again c =
-    let c₂ = c .before .before in
-    let c₁ = c₂ .before .before .before .before in
-    let at = c₁ .before .before in
-    let x = at .before in
-    let l = x .before .before in
+    let p = c .before .before in
+    let x = p .before in
+    let l = x .before .before .before in
     let z : ℤ = entry (l .before .before .before .args .injections .now) (l .before .loop .k) in
     let fit : SFits w32 z = sfits-of (x .before .bus-of-arg .given) in
-    packing-more _ _ _ _ _ _ _ _ (l .loop-test .taken) (l .before .loop .inv)
-    (bus-put _ _ _ _ _ _ z (at .bus-place .ensures) (c₁ .put .ensures) (c₂ .put2 .ensures) (rw (toZ-ofZ fit) at (x .bus-of .ensures)))
+    packing-more _ _ _ _ _ _ _ _ _ (l .loop-test .taken) (l .before .loop .inv) (ap busFields (rw (toZ-ofZ fit) at (x .bus-of .ensures))) (p .put-bus .ensures)
 
 same-length : tie.Need-same-length Inv-loop μ-loop
 same-length c = c .before .loop .inv .long
@@ -75,10 +66,7 @@ put-buses-spec =
     mul-bus-of
     shared-slice-copy-out-bus-of
     bus-of-requires
-    bus-place-requires
-    put-requires
-    add-put
-    put-requires-2
+    put-bus-requires
     add-k
     loop-less
     loop-again

@@ -1,7 +1,8 @@
+-- `sign_of` is 1 exactly below 0.
 use borrow.Author.Needs.{needs}
 use native.Mathlib.Omega.{arith}
 use mir.Facts.{toZ-ofZ}
-use Rattle.pack.proofs.Entries.{sign-one, sign-none}
+use Rattle.pack.proofs.SmallEntries.{sign-one, sign-none}
 use Rattle.pack.proofs.sign_of.Statement.{statement}
 use Rattle.pack.proofs.sign_of.Tie as tie
 

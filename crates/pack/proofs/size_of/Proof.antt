@@ -1,3 +1,4 @@
+-- `size_of` gives the kW without the sign, and the sum does not wrap.
 use borrow.Author.Needs.{needs}
 use native.Mathlib.Omega.{arith}
 use mir.Facts.{toZ-ofZ}

@@ -1,3 +1,4 @@
+-- `list` reads only records of its table: the table is as long as 256 of them.
 use borrow.Author.Needs.{needs}
 use native.Mathlib.Omega.{arith}
 use mathlib.Core.Path.{_≡_}
@@ -21,8 +22,11 @@ print-head-requires c κs = search needs
 loop-holds : tie.Need-loop-holds Inv-loop μ-loop
 loop-holds c = (omega arith, omega arith)
 
-read-at-requires : tie.Need-read-at-requires Inv-loop μ-loop
-read-at-requires c κs = search needs
+stretch-requires : tie.Need-stretch-requires Inv-loop μ-loop
+stretch-requires c κs = search needs
+
+read-requires : tie.Need-read-requires Inv-loop μ-loop
+read-requires c κs = c .stretch .ensures .long
 
 print-branch-requires : tie.Need-print-branch-requires Inv-loop μ-loop
 print-branch-requires c κs = search needs
@@ -48,7 +52,8 @@ list-spec =
     head-of-requires
     print-head-requires
     loop-holds
-    read-at-requires
+    stretch-requires
+    read-requires
     print-branch-requires
     add-k
     loop-less

@@ -1,3 +1,4 @@
+-- `above` gives the part above 0.
 use mathlib.Core.Path.{sym}
 use native.Mathlib.Omega.{arith}
 use mir.Facts.{toZ-ofZ}

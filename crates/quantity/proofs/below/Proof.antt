@@ -1,3 +1,4 @@
+-- `below` gives the part below 0, of the least number too.
 use mathlib.Core.Path.{_≡_, sym}
 use mathlib.Core.Bool.{true}
 use Prim.Native.Nat.{_-_}

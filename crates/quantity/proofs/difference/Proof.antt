@@ -1,3 +1,4 @@
+-- `difference` gives more less fewer, with its sign.
 use borrow.Author.Needs.{needs, sfits-of}
 use mathlib.Core.Path.{_∙_}
 use mir.Syntax.{w32}

@@ -1,3 +1,4 @@
+-- `limit` gives kVA times power factor divided by 1000, and no step of it wraps.
 use borrow.Author.Needs.{needs}
 use native.Mathlib.Omega.{arith}
 use native.Mathlib.Nat.{mul-le-mul-left}

@@ -1,3 +1,4 @@
+-- `signed` gives the number of a sign and a size.
 use borrow.Author.Needs.{needs}
 use mathlib.Core.Path.{_≡_}
 use native.Mathlib.Omega.{arith}

@@ -1,3 +1,4 @@
+-- `is_listed` is true exactly where byte 0 is not 1 or the reroute names a touched branch.
 use borrow.Author.Needs.{needs}
 use native.Mathlib.Omega.{arith}
 use mathlib.Core.Path.{_≡_}
@@ -39,7 +40,7 @@ returns-2 c =
     let at = c .before .before in
     let i = at .before .loop .i in
     let y : Fits w8 (nth (c .before .before .before .before .before .before .args .t2) i) = search needs in
-    met _ _ (at .before .loop .inv .0) (at .loop-test .taken) (omega (arith, c .before .shared-slice-known2 .given (20 + i))) (omega (arith, y)) (c .if2 .taken)
+    met _ _ (at .before .loop .inv .0) (omega arith) (omega (arith, c .before .shared-slice-known2 .given (20 + i))) (omega (arith, y)) (c .if2 .taken)
 
 add-i : tie.Need-add-i Inv-loop μ-loop
 add-i c = omega arith
@@ -50,10 +51,10 @@ loop-less c = omega arith
 loop-again : tie.Need-loop-again Inv-loop μ-loop
 loop-again c =
     let at = c .before .before in
-    (passed-more _ _ (at .before .loop .inv .0) (at .loop-test .taken) (c .if2 .left), at .before .loop .inv .1)
+    (passed-more _ _ (at .before .loop .inv .0) (omega arith) (c .if2 .left), at .before .loop .inv .1)
 
 returns-3 : tie.Need-returns-3 Inv-loop μ-loop
-returns-3 c = passed-all _ _ (c .before .loop .inv .0) (c .loop-test .left)
+returns-3 c = passed-all _ _ (c .before .loop .inv .0) (omega arith)
 
 pub is-listed-spec : {M : Type 1} → statement M
 is-listed-spec =

@@ -1,6 +1,6 @@
 -- At first nothing flows: the limits are latent, the gains are surplus and the loads deficit.
 use borrow.Author.Needs.{needs}
-use Rattle.reroute.proofs.Judging.{basic-ready, based}
+use Rattle.reroute.proofs.FlowVerdicts.{basic-ready, based}
 use Rattle.reroute.proofs.base_flow.Statement.{statement}
 use Rattle.reroute.proofs.base_flow.Tie as tie
 

@@ -1,9 +1,8 @@
 -- Each round keeps what `Round` says; each way out is one law of `Ends`.
 use borrow.Author.Needs.{needs}
 use native.Mathlib.Omega.{arith}
-use mathlib.Core.Path.{_≡_, refl}
+use mathlib.Core.Path.{refl}
 use Prim.Native.Nat.{_<_}
-use lib.ListN.{length}
 use Rattle.rows.specs.Row.{nth}
 use Rattle.reroute.proofs.Rounds.{Amount, Round, round-none, goal-bus, start-bus, round-movable, in-left, round-less, round-again}
 use Rattle.reroute.proofs.Ends.{round-done, round-stuck}
@@ -11,33 +10,38 @@ use Rattle.reroute.proofs.reroute.Statement.{statement}
 use Rattle.reroute.proofs.reroute.Tie as tie
 
 abbrev Inv-loop : tie.InvT-loop
-Inv-loop wires a₀ b₀ more₀ lack₀ row₀ left₀ a b more lack row left = Round wires a₀ b₀ more₀ lack₀ a b more lack row left
+Inv-loop wires latent₀ rest₀ row₀ left₀ latent rest row left = Round wires latent₀ rest₀ latent rest row left
 
 abbrev μ-loop : tie.MeasureT-loop
-μ-loop wires a₀ b₀ more₀ lack₀ row₀ left₀ a b more lack row left = left
+μ-loop wires latent₀ rest₀ row₀ left₀ latent rest row left = left
 
 -- Both ends of the route stand in the rows.
-start-at : (c : tie.After-marks Inv-loop μ-loop) → c .before .before .before .answer .given .0 .1 .1 .0 < 128
-start-at c = start-bus (c .before .before .before .before .before .explore .ensures) (c .before .before .before .answer .given .1) (c .before .before .before .before .before .before .before .loop .inv)
+start-at : (c : tie.After-marks Inv-loop μ-loop) → c .before .before .answer .given .0 .1 .1 .0 < 128
+start-at c =
+    let u = c .before .before in
+    start-bus (u .before .before .before .explore .ensures) (u .answer .given .1) (u .before .before .before .before .before .loop .inv)
 
-goal-at : (c : tie.After-marks Inv-loop μ-loop) → c .before .before .before .answer .given .0 .0 < 128
-goal-at c = goal-bus (c .before .before .before .before .before .explore .ensures) (c .before .before .before .answer .given .1) (c .before .before .before .before .before .before .before .loop .inv)
-
-marks-long : (c : tie.After-marks Inv-loop μ-loop) → length (c .before .before .before .before .before .explore .result .work .marks) ≡ 128
-marks-long c = search needs
+goal-at : (c : tie.After-marks Inv-loop μ-loop) → c .before .before .answer .given .0 .0 < 128
+goal-at c =
+    let u = c .before .before in
+    goal-bus (u .before .before .before .explore .ensures) (u .answer .given .1) (u .before .before .before .before .before .loop .inv)
 
 -- What is moved is the smallest of three.
-amount : (c : tie.After-smaller2 Inv-loop μ-loop) → Amount (c .before .before .before .before .before .answer .given .0 .1 .0) (nth (c .before .before .before .before .before .before .before .before .before .loop .more) (c .before .before .before .before .before .answer .given .0 .1 .1 .0)) (nth (c .before .before .before .before .before .before .before .before .before .loop .lack) (c .before .before .before .before .before .answer .given .0 .0)) (c .smaller2 .result)
+amount : (c : tie.After-smaller2 Inv-loop μ-loop)
+    → let u = c .before .before .before .before .before .before in
+    let rest = u .before .before .before .before .before .loop .rest in
+    Amount (u .answer .given .0 .1 .0) (nth (rest .surplus) (u .answer .given .0 .1 .1 .0)) (nth (rest .deficit) (u .answer .given .0 .0)) (c .smaller2 .result)
 amount c = record { in-room = omega arith; in-surplus = omega arith; in-deficit = omega arith; some = λ p q r. omega arith }
 
 roles-requires : tie.Need-roles-requires Inv-loop μ-loop
-roles-requires c κs = c .before .before .before .before .pre .linked .wired .few
+roles-requires c κs = c .pre .linked .wired .few
 
 sum-requires : tie.Need-sum-requires Inv-loop μ-loop
-sum-requires c κs = record { few = c .before .before .before .before .before .pre .linked .wired .few; small = c .before .before .before .before .before .pre .small }
+sum-requires c κs = record { few = c .before .before .pre .linked .wired .few; small = c .before .before .pre .small }
 
 loop-holds : tie.Need-loop-holds Inv-loop μ-loop
-loop-holds c = round-none (c .before .before .before .before .before .before .pre) (search needs) (search needs) (search needs) (search needs) (search needs) (c .before .roles .ensures) (c .sum .ensures)
+loop-holds c =
+    round-none (c .before .before .before .pre) (search needs) (search needs) (search needs) (c .before .before .roles .ensures) (c .sum .ensures)
 
 explore-requires : tie.Need-explore-requires Inv-loop μ-loop
 explore-requires c κs = record { linked = c .before .loop .inv .ready .linked; blank = refl }
@@ -52,19 +56,21 @@ outcome-requires : tie.Need-outcome-requires Inv-loop μ-loop
 outcome-requires c κs = tt
 
 returns : tie.Need-returns Inv-loop μ-loop
-returns c = rw (c .outcome .ensures) (round-stuck (c .before .before .before .before .explore .ensures) (c .before .before .enum-told .given .1) (omega arith) (c .before .before .before .before .before .before .loop .inv))
+returns c =
+    let u = c .before .before in
+    rw (c .outcome .ensures) (round-stuck (u .before .before .before .explore .ensures) (u .enum-told .given .1) (omega arith) (u .before .before .before .before .before .loop .inv))
 
 mul-s : tie.Need-mul-s Inv-loop μ-loop
 mul-s c = omega (arith, start-at c)
 
-array-read-s : tie.Need-array-read-s Inv-loop μ-loop
-array-read-s c = omega (arith, start-at c)
+element-copy-out-s : tie.Need-element-copy-out-s Inv-loop μ-loop
+element-copy-out-s c = omega (arith, start-at c)
 
 mul-t : tie.Need-mul-t Inv-loop μ-loop
-mul-t c = omega (arith, goal-at c)
+mul-t c = omega (arith, goal-at (c .before))
 
-array-read-t : tie.Need-array-read-t Inv-loop μ-loop
-array-read-t c = omega (arith, goal-at c)
+element-copy-out-t : tie.Need-element-copy-out-t Inv-loop μ-loop
+element-copy-out-t c = omega (arith, goal-at (c .before))
 
 smaller-requires : tie.Need-smaller-requires Inv-loop μ-loop
 smaller-requires c κs = tt
@@ -72,62 +78,61 @@ smaller-requires c κs = tt
 smaller-requires-2 : tie.Need-smaller-requires-2 Inv-loop μ-loop
 smaller-requires-2 c κs = tt
 
-slice-aggregate-shift : tie.Need-slice-aggregate-shift Inv-loop μ-loop
-slice-aggregate-shift c = search (needs, marks-long (c .before .before .before))
-
-slice-aggregate-shift-2 : tie.Need-slice-aggregate-shift-2 Inv-loop μ-loop
-slice-aggregate-shift-2 c = search needs
-
-slice-aggregate-shift-3 : tie.Need-slice-aggregate-shift-3 Inv-loop μ-loop
-slice-aggregate-shift-3 c = search needs
-
 shift-requires : tie.Need-shift-requires Inv-loop μ-loop
-shift-requires c κs = round-movable (c .before .before .before .before .before .before .before .before .before .before .explore .ensures) (c .before .before .before .before .before .before .before .before .answer .given .1) (c .before .before .before .before .before .before .before .before .before .before .before .before .loop .inv) (amount (c .before .before .before)) (marks-long (c .before .before .before .before .before))
+shift-requires c κs =
+    let u = c .before .before .before .before .before .before in
+    round-movable (u .before .before .before .explore .ensures) (u .answer .given .1) (u .before .before .before .before .before .loop .inv) (amount c)
 
-sub-more : tie.Need-sub-more Inv-loop μ-loop
-sub-more c = amount (c .before .before .before .before .before .before) .in-surplus
+sub-rest : tie.Need-sub-rest Inv-loop μ-loop
+sub-rest c = amount (c .before) .in-surplus
 
-mul-more : tie.Need-mul-more Inv-loop μ-loop
-mul-more c = omega (arith, start-at (c .before .before .before .before .before .before .before .before))
+mul-rest : tie.Need-mul-rest Inv-loop μ-loop
+mul-rest c = omega (arith, start-at (c .before .before .before .before .before))
 
-array-write-more : tie.Need-array-write-more Inv-loop μ-loop
-array-write-more c = omega (arith, start-at (c .before .before .before .before .before .before .before .before))
+element-write-rest : tie.Need-element-write-rest Inv-loop μ-loop
+element-write-rest c = omega (arith, start-at (c .before .before .before .before .before))
 
-sub-lack : tie.Need-sub-lack Inv-loop μ-loop
-sub-lack c = amount (c .before .before .before .before .before .before) .in-deficit
+sub-rest-2 : tie.Need-sub-rest-2 Inv-loop μ-loop
+sub-rest-2 c = amount (c .before) .in-deficit
 
-mul-lack : tie.Need-mul-lack Inv-loop μ-loop
-mul-lack c = omega (arith, goal-at (c .before .before .before .before .before .before .before .before))
+mul-rest-2 : tie.Need-mul-rest-2 Inv-loop μ-loop
+mul-rest-2 c = omega (arith, goal-at (c .before .before .before .before .before))
 
-array-write-lack : tie.Need-array-write-lack Inv-loop μ-loop
-array-write-lack c = omega (arith, goal-at (c .before .before .before .before .before .before .before .before))
+element-write-rest-2 : tie.Need-element-write-rest-2 Inv-loop μ-loop
+element-write-rest-2 c = omega (arith, goal-at (c .before .before .before .before .before))
 
 sub-role : tie.Need-sub-role Inv-loop μ-loop
-sub-role c = amount (c .before .before .before .before .before .before) .in-surplus
+sub-role c = amount (c .before) .in-surplus
 
 role-requires : tie.Need-role-requires Inv-loop μ-loop
 role-requires c κs = tt
 
 array-write-row : tie.Need-array-write-row Inv-loop μ-loop
-array-write-row c = omega (arith, start-at (c .before .before .before .before .before .before .before .before .before))
+array-write-row c = omega (arith, start-at (c .before .before .before .before .before .before))
 
 sub-role-2 : tie.Need-sub-role-2 Inv-loop μ-loop
-sub-role-2 c = amount (c .before .before .before .before .before .before .before) .in-deficit
+sub-role-2 c = amount (c .before .before) .in-deficit
 
 role-requires-2 : tie.Need-role-requires-2 Inv-loop μ-loop
 role-requires-2 c κs = tt
 
 array-write-row-2 : tie.Need-array-write-row-2 Inv-loop μ-loop
-array-write-row-2 c = omega (arith, goal-at (c .before .before .before .before .before .before .before .before .before .before))
+array-write-row-2 c = omega (arith, goal-at (c .before .before .before .before .before .before .before))
 
 sub-left : tie.Need-sub-left Inv-loop μ-loop
-sub-left c = in-left (c .before .before .before .before .before .before .before .before .before .before .before .before .before .before .before .explore .ensures) (c .before .before .before .before .before .before .before .before .before .before .before .before .before .answer .given .1) (c .before .before .before .before .before .before .before .before .before .before .before .before .before .before .before .before .before .loop .inv) (amount (c .before .before .before .before .before .before .before .before))
+sub-left c =
+    let u = c .before .before .before .before .before .before .before .before .before in
+    in-left (u .before .before .before .explore .ensures) (u .answer .given .1) (u .before .before .before .before .before .loop .inv) (amount (c .before .before .before))
 
 loop-less : tie.Need-loop-less Inv-loop μ-loop
-loop-less c = round-less (c .before .before .before .before .before .before .before .before .before .before .before .before .before .before .before .explore .ensures) (c .before .before .before .before .before .before .before .before .before .before .before .before .before .answer .given .1) (c .before .before .before .before .before .before .before .before .before .before .before .before .before .before .before .before .before .loop .inv) (amount (c .before .before .before .before .before .before .before .before))
+loop-less c =
+    let u = c .before .before .before .before .before .before .before .before .before in
+    round-less (u .before .before .before .explore .ensures) (u .answer .given .1) (u .before .before .before .before .before .loop .inv) (amount (c .before .before .before))
 
 loop-again : tie.Need-loop-again Inv-loop μ-loop
-loop-again c = round-again (c .before .before .before .before .before .before .before .before .before .before .before .before .before .before .before .explore .ensures) (c .before .before .before .before .before .before .before .before .before .before .before .before .before .answer .given .1) (c .before .before .before .before .before .before .before .before .before .before .before .before .before .before .before .before .before .loop .inv) (amount (c .before .before .before .before .before .before .before .before)) (c .before .role .ensures) (c .role2 .ensures) (search needs) (search needs) (c .before .before .before .before .shift .ensures)
+loop-again c =
+    let u = c .before .before .before .before .before .before .before .before .before in
+    round-again (u .before .before .before .explore .ensures) (u .answer .given .1) (u .before .before .before .before .before .loop .inv) (amount (c .before .before .before)) (c .before .role .ensures) (c .role2 .ensures) (c .before .before .shift .ensures)
 
 outcome-requires-2 : tie.Need-outcome-requires-2 Inv-loop μ-loop
 outcome-requires-2 c κs = tt
@@ -150,21 +155,18 @@ reroute-spec =
     outcome-requires
     returns
     mul-s
-    array-read-s
+    element-copy-out-s
     mul-t
-    array-read-t
+    element-copy-out-t
     smaller-requires
     smaller-requires-2
-    slice-aggregate-shift
-    slice-aggregate-shift-2
-    slice-aggregate-shift-3
     shift-requires
-    sub-more
-    mul-more
-    array-write-more
-    sub-lack
-    mul-lack
-    array-write-lack
+    sub-rest
+    mul-rest
+    element-write-rest
+    sub-rest-2
+    mul-rest-2
+    element-write-rest-2
     sub-role
     role-requires
     array-write-row

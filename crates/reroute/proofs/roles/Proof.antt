@@ -7,7 +7,7 @@ use Rattle.reroute.proofs.roles.Statement.{statement}
 use Rattle.reroute.proofs.roles.Tie as tie
 
 abbrev Inv-loop : tie.InvT-loop
-Inv-loop buses rest row₀ v₀ row v = Casting buses (rest .surplus) (rest .deficit) row v
+Inv-loop buses rest row₀ v₀ row v = Casting buses rest row v
 
 abbrev μ-loop : tie.MeasureT-loop
 μ-loop buses rest row₀ v₀ row v = buses - v

@@ -1,114 +1,124 @@
--- x is moved on the way from the goal back to `at`.
-use Prim.Native.Nat.{_-_}
+-- The walk back: x is moved on the way from the goal to `at`, and every branch of the rest still has it.
+use Prim.Native.Nat.{_-_, _<_}
 use borrow.Author.Needs.{needs}
 use native.Mathlib.Omega.{arith}
-use mathlib.Core.Path.{sym, _∙_}
 use mathlib.Core.Logic.{⊎-elim}
-use Rattle.reroute.proofs.Moving.{Going, going-start, going-bus, going-end, going-two, going-branch, forth-room, forth-sum, going-forth, back-room, back-sum, going-back}
+use Rattle.rows.specs.Row.{nth}
+use Rattle.reroute.proofs.Moving.{Going, going-start, going-bus, going-end, going-two, going-branch}
+use Rattle.reroute.proofs.Moving.{forth-room, forth-sum, going-forth, back-room, back-sum, going-back}
 use Rattle.reroute.proofs.shift.Statement.{statement}
 use Rattle.reroute.proofs.shift.Tie as tie
 
 abbrev Inv-loop : tie.InvT-loop
-Inv-loop marks a₀ b₀ goal x wires at₀ steps₀ a b at steps = Going (wires .branches) (wires .first) (wires .second) a₀ b₀ marks goal x a b at steps
+Inv-loop goal x wires marks latent₀ at₀ steps₀ latent at steps =
+    Going (wires .branches) (wires .first) (wires .second) (latent₀ .ahead) (latent₀ .back) marks goal x (latent .ahead) (latent .back) at steps
 
 abbrev μ-loop : tie.MeasureT-loop
-μ-loop marks a₀ b₀ goal x wires at₀ steps₀ a b at steps = 128 - steps
+μ-loop goal x wires marks latent₀ at₀ steps₀ latent at steps = 128 - steps
+
+-- The branch of the mark at hand stands in the rows.
+in-row : (c : tie.Else1 Inv-loop μ-loop) → nth (c .before .before .args .t2) (c .before .loop .at) - 2 < 256
+in-row c = going-branch (c .before .loop .inv) (c .if1 .left)
 
 loop-holds : tie.Need-loop-holds Inv-loop μ-loop
-loop-holds c = going-start (c .pre)
+loop-holds c = going-start (c .pre) (search needs) (search needs) (search needs)
 
 mul-mark : tie.Need-mul-mark Inv-loop μ-loop
 mul-mark c = omega (arith, going-bus (c .loop .inv), c .loop .inv .long)
 
-shared-slice-read-mark : tie.Need-shared-slice-read-mark Inv-loop μ-loop
-shared-slice-read-mark c = going-bus (c .before .loop .inv)
+array-read-mark : tie.Need-array-read-mark Inv-loop μ-loop
+array-read-mark c = omega (arith, going-bus (c .loop .inv), c .loop .inv .long)
 
 cast-mark : tie.Need-cast-mark Inv-loop μ-loop
-cast-mark c = omega (arith, c .shared-slice-known .given (c .before .loop .at))
-
-same-length : tie.Need-same-length Inv-loop μ-loop
-same-length c = c .before .before .loop .inv .long-a ∙ sym (c .before .before .before .pre .long-a)
-
-same-length-2 : tie.Need-same-length-2 Inv-loop μ-loop
-same-length-2 c = c .before .before .loop .inv .long-b ∙ sym (c .before .before .before .pre .long-b)
+cast-mark c = search needs
 
 returns : tie.Need-returns Inv-loop μ-loop
-returns c = going-end (c .before .before .loop .inv) (c .if1 .taken)
+returns c = going-end (c .before .loop .inv) (c .if1 .taken)
 
 sub-k : tie.Need-sub-k Inv-loop μ-loop
-sub-k c = going-two (c .before .before .loop .inv) (c .if1 .left)
+sub-k c = going-two (c .before .loop .inv) (c .if1 .left)
 
 element-copy-out-near : tie.Need-element-copy-out-near Inv-loop μ-loop
-element-copy-out-near c = omega (arith, going-branch (c .before .before .loop .inv) (c .if1 .left))
+element-copy-out-near c = omega (arith, in-row c)
 
 cast-near : tie.Need-cast-near Inv-loop μ-loop
 cast-near c = search needs
 
 element-copy-out-far : tie.Need-element-copy-out-far Inv-loop μ-loop
-element-copy-out-far c = omega (arith, going-branch (c .before .before .before .loop .inv) (c .before .if1 .left))
+element-copy-out-far c = omega (arith, in-row (c .before))
 
 cast-far : tie.Need-cast-far Inv-loop μ-loop
 cast-far c = search needs
 
 mul-p : tie.Need-mul-p Inv-loop μ-loop
-mul-p c = omega (arith, going-branch (c .before .before .before .before .loop .inv) (c .before .before .if1 .left), c .before .before .before .before .loop .inv .long-a)
+mul-p c = omega (arith, in-row (c .before .before))
 
-slice-read-p : tie.Need-slice-read-p Inv-loop μ-loop
-slice-read-p c = omega (arith, going-branch (c .before .before .before .before .before .loop .inv) (c .before .before .before .if1 .left), c .before .before .before .before .before .loop .inv .long-a)
+element-copy-out-p : tie.Need-element-copy-out-p Inv-loop μ-loop
+element-copy-out-p c = omega (arith, in-row (c .before .before))
 
 mul-q : tie.Need-mul-q Inv-loop μ-loop
-mul-q c = omega (arith, going-branch (c .before .before .before .before .before .loop .inv) (c .before .before .before .if1 .left), c .before .before .before .before .before .loop .inv .long-b)
+mul-q c = omega (arith, in-row (c .before .before .before))
 
-slice-read-q : tie.Need-slice-read-q Inv-loop μ-loop
-slice-read-q c = omega (arith, going-branch (c .before .before .before .before .before .before .loop .inv) (c .before .before .before .before .if1 .left), c .before .before .before .before .before .before .loop .inv .long-b)
+element-copy-out-q : tie.Need-element-copy-out-q Inv-loop μ-loop
+element-copy-out-q c = omega (arith, in-row (c .before .before .before))
 
-sub-a : tie.Need-sub-a Inv-loop μ-loop
-sub-a c = forth-room (c .before .before .before .before .before .before .before .loop .inv) (c .before .before .before .before .before .if1 .left) (c .if2 .taken)
+sub-latent : tie.Need-sub-latent Inv-loop μ-loop
+sub-latent c =
+    forth-room (c .before .before .before .before .before .before .loop .inv) (c .before .before .before .before .before .if1 .left) (c .if2 .taken)
 
-mul-a : tie.Need-mul-a Inv-loop μ-loop
-mul-a c = omega (arith, going-branch (c .before .before .before .before .before .before .before .loop .inv) (c .before .before .before .before .before .if1 .left))
+mul-latent : tie.Need-mul-latent Inv-loop μ-loop
+mul-latent c = omega (arith, in-row (c .before .before .before .before .before))
 
-slice-write-a : tie.Need-slice-write-a Inv-loop μ-loop
-slice-write-a c = omega (arith, going-branch (c .before .before .before .before .before .before .before .loop .inv) (c .before .before .before .before .before .if1 .left), c .before .before .before .before .before .before .before .loop .inv .long-a)
+element-write-latent : tie.Need-element-write-latent Inv-loop μ-loop
+element-write-latent c = omega (arith, in-row (c .before .before .before .before .before))
 
-add-b : tie.Need-add-b Inv-loop μ-loop
-add-b c = omega (arith, forth-sum (c .before .before .before .before .before .before .before .loop .inv) (c .before .before .before .before .before .if1 .left) (c .if2 .taken))
+add-latent : tie.Need-add-latent Inv-loop μ-loop
+add-latent c = omega (
+  arith,
+  forth-sum (c .before .before .before .before .before .before .loop .inv) (c .before .before .before .before .before .if1 .left) (c .if2 .taken),
+)
 
-mul-b : tie.Need-mul-b Inv-loop μ-loop
-mul-b c = omega (arith, going-branch (c .before .before .before .before .before .before .before .loop .inv) (c .before .before .before .before .before .if1 .left))
+mul-latent-2 : tie.Need-mul-latent-2 Inv-loop μ-loop
+mul-latent-2 c = omega (arith, in-row (c .before .before .before .before .before))
 
-slice-write-b : tie.Need-slice-write-b Inv-loop μ-loop
-slice-write-b c = omega (arith, going-branch (c .before .before .before .before .before .before .before .loop .inv) (c .before .before .before .before .before .if1 .left), c .before .before .before .before .before .before .before .loop .inv .long-b)
+element-write-latent-2 : tie.Need-element-write-latent-2 Inv-loop μ-loop
+element-write-latent-2 c = omega (arith, in-row (c .before .before .before .before .before))
 
-add-a : tie.Need-add-a Inv-loop μ-loop
-add-a c = omega (arith, back-sum (c .before .before .before .before .before .before .before .loop .inv) (c .before .before .before .before .before .if1 .left) (c .if2 .left))
+add-latent-2 : tie.Need-add-latent-2 Inv-loop μ-loop
+add-latent-2 c = omega (
+  arith,
+  back-sum (c .before .before .before .before .before .before .loop .inv) (c .before .before .before .before .before .if1 .left) (c .if2 .left),
+)
 
-mul-a-2 : tie.Need-mul-a-2 Inv-loop μ-loop
-mul-a-2 c = omega (arith, going-branch (c .before .before .before .before .before .before .before .loop .inv) (c .before .before .before .before .before .if1 .left))
+mul-latent-3 : tie.Need-mul-latent-3 Inv-loop μ-loop
+mul-latent-3 c = omega (arith, in-row (c .before .before .before .before .before))
 
-slice-write-a-2 : tie.Need-slice-write-a-2 Inv-loop μ-loop
-slice-write-a-2 c = omega (arith, going-branch (c .before .before .before .before .before .before .before .loop .inv) (c .before .before .before .before .before .if1 .left), c .before .before .before .before .before .before .before .loop .inv .long-a)
+element-write-latent-3 : tie.Need-element-write-latent-3 Inv-loop μ-loop
+element-write-latent-3 c = omega (arith, in-row (c .before .before .before .before .before))
 
-sub-b : tie.Need-sub-b Inv-loop μ-loop
-sub-b c = back-room (c .before .before .before .before .before .before .before .loop .inv) (c .before .before .before .before .before .if1 .left) (c .if2 .left)
+sub-latent-2 : tie.Need-sub-latent-2 Inv-loop μ-loop
+sub-latent-2 c =
+    back-room (c .before .before .before .before .before .before .loop .inv) (c .before .before .before .before .before .if1 .left) (c .if2 .left)
 
-mul-b-2 : tie.Need-mul-b-2 Inv-loop μ-loop
-mul-b-2 c = omega (arith, going-branch (c .before .before .before .before .before .before .before .loop .inv) (c .before .before .before .before .before .if1 .left))
+mul-latent-4 : tie.Need-mul-latent-4 Inv-loop μ-loop
+mul-latent-4 c = omega (arith, in-row (c .before .before .before .before .before))
 
-slice-write-b-2 : tie.Need-slice-write-b-2 Inv-loop μ-loop
-slice-write-b-2 c = omega (arith, going-branch (c .before .before .before .before .before .before .before .loop .inv) (c .before .before .before .before .before .if1 .left), c .before .before .before .before .before .before .before .loop .inv .long-b)
+element-write-latent-4 : tie.Need-element-write-latent-4 Inv-loop μ-loop
+element-write-latent-4 c = omega (arith, in-row (c .before .before .before .before .before))
 
 add-steps : tie.Need-add-steps Inv-loop μ-loop
-add-steps c = omega (arith, c .before .before .before .before .before .before .before .loop .inv .walk .left)
+add-steps c = omega (arith, c .before .before .before .before .before .before .loop .inv .walk .left)
 
 loop-less : tie.Need-loop-less Inv-loop μ-loop
-loop-less c = omega (arith, c .before .before .before .before .before .before .before .loop .inv .walk .left)
+loop-less c = omega (arith, c .before .before .before .before .before .before .loop .inv .walk .left)
 
 loop-again : tie.Need-loop-again Inv-loop μ-loop
 loop-again c =
+    let G = c .before .before .before .before .before .before .loop .inv in
+    let on = c .before .before .before .before .before .if1 .left in
     ⊎-elim
-    (λ w. let room = forth-room (c .before .before .before .before .before .before .before .loop .inv) (c .before .before .before .before .before .if1 .left) (w .0 .taken) in rw (w .1, w .2, w .3) (going-forth (c .before .before .before .before .before .before .before .loop .inv) (c .before .before .before .before .before .if1 .left) (w .0 .taken) _ _ (omega arith) (omega arith)))
-    (λ w. let room = back-room (c .before .before .before .before .before .before .before .loop .inv) (c .before .before .before .before .before .if1 .left) (w .0 .left) in rw (w .1, w .2, w .3) (going-back (c .before .before .before .before .before .before .before .loop .inv) (c .before .before .before .before .before .if1 .left) (w .0 .left) _ _ (omega arith) (omega arith)))
+    (λ w. let room = forth-room G on (w .0 .taken) in rw (w .1, w .2) (going-forth G on (w .0 .taken) _ _ (omega arith) (omega arith)))
+    (λ w. let room = back-room G on (w .0 .left) in rw (w .1, w .2) (going-back G on (w .0 .left) _ _ (omega arith) (omega arith)))
     (c .if2 .came)
 
 pub shift-spec : {M : Type 1} → statement M
@@ -119,10 +129,8 @@ shift-spec =
     μ-loop
     loop-holds
     mul-mark
-    shared-slice-read-mark
+    array-read-mark
     cast-mark
-    same-length
-    same-length-2
     returns
     sub-k
     element-copy-out-near
@@ -130,21 +138,21 @@ shift-spec =
     element-copy-out-far
     cast-far
     mul-p
-    slice-read-p
+    element-copy-out-p
     mul-q
-    slice-read-q
-    sub-a
-    mul-a
-    slice-write-a
-    add-b
-    mul-b
-    slice-write-b
-    add-a
-    mul-a-2
-    slice-write-a-2
-    sub-b
-    mul-b-2
-    slice-write-b-2
+    element-copy-out-q
+    sub-latent
+    mul-latent
+    element-write-latent
+    add-latent
+    mul-latent-2
+    element-write-latent-2
+    add-latent-2
+    mul-latent-3
+    element-write-latent-3
+    sub-latent-2
+    mul-latent-4
+    element-write-latent-4
     add-steps
     loop-less
     loop-again)

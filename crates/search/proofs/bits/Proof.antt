@@ -1,18 +1,18 @@
 -- The first j bytes are filled.
 use Prim.Native.Nat.{_-_}
 use native.Mathlib.Omega.{arith}
-use Rattle.search.proofs.Bytes.{Filling, filling-none, filling-more, filling-end}
+use Rattle.search.proofs.Bytes.{FirstBytes, first-bytes-none, first-bytes-more, first-bytes-end}
 use Rattle.search.proofs.bits.Statement.{statement}
 use Rattle.search.proofs.bits.Tie as tie
 
 abbrev Inv-loop : tie.InvT-loop
-Inv-loop marks group₀ j₀ group j = Filling marks group j
+Inv-loop marks group₀ j₀ group j = FirstBytes marks group j
 
 abbrev μ-loop : tie.MeasureT-loop
 μ-loop marks group₀ j₀ group j = 16 - j
 
 loop-holds : tie.Need-loop-holds Inv-loop μ-loop
-loop-holds c = filling-none
+loop-holds c = first-bytes-none
 
 mul-byte : tie.Need-mul-byte Inv-loop μ-loop
 mul-byte c = omega arith
@@ -30,10 +30,10 @@ loop-less : tie.Need-loop-less Inv-loop μ-loop
 loop-less c = omega arith
 
 loop-again : tie.Need-loop-again Inv-loop μ-loop
-loop-again c = filling-more (c .before .before .loop .inv) (c .before .loop-test .taken) (c .byte .ensures)
+loop-again c = first-bytes-more (c .before .before .loop .inv) (c .before .loop-test .taken) (c .byte .ensures)
 
 returns : tie.Need-returns Inv-loop μ-loop
-returns c = filling-end (c .before .loop .inv) (c .loop-test .left)
+returns c = first-bytes-end (c .before .loop .inv) (c .loop-test .left)
 
 pub bits-spec : {M : Type 1} → statement M
 bits-spec =

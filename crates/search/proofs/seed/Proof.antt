@@ -1,5 +1,6 @@
 -- The starts below v are marked and queued.
 use Prim.Native.Nat.{_-_}
+use borrow.Author.Needs.{needs}
 use native.Mathlib.Omega.{arith}
 use mathlib.Core.Logic.{⊎-elim}
 use Rattle.search.proofs.Sowing.{Sow, sow-none, sow-skip, sow-mark, sow-end}
@@ -13,28 +14,28 @@ abbrev μ-loop : tie.MeasureT-loop
 μ-loop buses roles marks₀ queue₀ origin₀ count₀ v₀ marks queue origin count v = buses - v
 
 loop-holds : tie.Need-loop-holds Inv-loop μ-loop
-loop-holds c = sow-none (c .pre)
+loop-holds c = sow-none (c .pre) (search needs)
 
-element-copy-out-if1 : tie.Need-element-copy-out-if1 Inv-loop μ-loop
-element-copy-out-if1 c = omega arith
+array-read-if1 : tie.Need-array-read-if1 Inv-loop μ-loop
+array-read-if1 c = omega arith
 
 mul-marks : tie.Need-mul-marks Inv-loop μ-loop
 mul-marks c = omega arith
 
-element-write-marks : tie.Need-element-write-marks Inv-loop μ-loop
-element-write-marks c = omega arith
+array-write-marks : tie.Need-array-write-marks Inv-loop μ-loop
+array-write-marks c = omega arith
 
 cast-queue : tie.Need-cast-queue Inv-loop μ-loop
 cast-queue c = omega arith
 
-element-write-queue : tie.Need-element-write-queue Inv-loop μ-loop
-element-write-queue c = omega arith
+array-write-queue : tie.Need-array-write-queue Inv-loop μ-loop
+array-write-queue c = omega arith
 
 cast-origin : tie.Need-cast-origin Inv-loop μ-loop
 cast-origin c = omega arith
 
-element-write-origin : tie.Need-element-write-origin Inv-loop μ-loop
-element-write-origin c = omega arith
+array-write-origin : tie.Need-array-write-origin Inv-loop μ-loop
+array-write-origin c = omega arith
 
 add-count : tie.Need-add-count Inv-loop μ-loop
 add-count c = omega arith
@@ -48,8 +49,8 @@ loop-less c = omega arith
 loop-again : tie.Need-loop-again Inv-loop μ-loop
 loop-again c =
     ⊎-elim
-    (λ w. rw (w .1, w .2, w .3, w .4) (sow-mark (c .before .before .before .loop .inv) (c .before .before .loop-test .taken) (w .0 .taken)))
-    (λ w. rw (w .1, w .2, w .3, w .4) (sow-skip (c .before .before .before .loop .inv) (c .before .before .loop-test .taken) (w .0 .left)))
+    (λ w. rw (w .1, w .2, w .3, w .4) (sow-mark (c .before .before .loop .inv) (c .before .loop-test .taken) (w .0 .taken)))
+    (λ w. rw (w .1, w .2, w .3, w .4) (sow-skip (c .before .before .loop .inv) (c .before .loop-test .taken) (w .0 .left)))
     (c .if1 .came)
 
 returns : tie.Need-returns Inv-loop μ-loop
@@ -62,13 +63,13 @@ seed-spec =
     Inv-loop
     μ-loop
     loop-holds
-    element-copy-out-if1
+    array-read-if1
     mul-marks
-    element-write-marks
+    array-write-marks
     cast-queue
-    element-write-queue
+    array-write-queue
     cast-origin
-    element-write-origin
+    array-write-origin
     add-count
     add-v
     loop-less

@@ -1,3 +1,4 @@
+-- `set_book` sets the first bytes of the book, and a bad command changes nothing: each return by one law.
 use borrow.Author.Needs.{needs}
 use native.Mathlib.Omega.{arith}
 use mathlib.Core.Path.{_≡_, sym, ap, _∙_}
@@ -6,7 +7,7 @@ use Prim.Native.Nat.{ℕ, _+_, _-_, _≤_}
 use lib.ListN.{length, set}
 use Rattle.rows.specs.Row.{nth, headed}
 use Rattle.rows.proofs.Row.{headed-none, headed-more, length-headed}
-use Rattle.spaces.proofs.Setting.{book-short, book-beyond, book-cut, book-done}
+use Rattle.spaces.proofs.SetOrUnchanged.{book-short, book-beyond, book-cut, book-done}
 use Rattle.spaces.proofs.set_book.Statement.{statement}
 use Rattle.spaces.proofs.set_book.Tie as tie
 

@@ -1,7 +1,8 @@
+-- `set_byte` sets the place that the command names; a bad command changes nothing.
 use borrow.Author.Needs.{needs}
 use native.Mathlib.Omega.{arith}
 use mathlib.Core.Path.{refl}
-use Rattle.spaces.proofs.Setting.{set-short, set-beyond, set-done}
+use Rattle.spaces.proofs.SetOrUnchanged.{set-short, set-beyond, set-done}
 use Rattle.spaces.proofs.set_byte.Statement.{statement}
 use Rattle.spaces.proofs.set_byte.Tie as tie
 

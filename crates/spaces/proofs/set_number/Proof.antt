@@ -1,6 +1,7 @@
+-- `set_number` sets the place that the command names; a bad command changes nothing.
 use borrow.Author.Needs.{needs}
 use native.Mathlib.Omega.{arith}
-use Rattle.spaces.proofs.Setting.{set-short, set-beyond, set-done}
+use Rattle.spaces.proofs.SetOrUnchanged.{set-short, set-beyond, set-done}
 use Rattle.spaces.proofs.set_number.Statement.{statement}
 use Rattle.spaces.proofs.set_number.Tie as tie
 

@@ -2,7 +2,7 @@
 use borrow.Author.Needs.{needs}
 use native.Mathlib.Omega.{arith}
 use mathlib.Core.Path.{refl}
-use Rattle.spaces.specs.Spaces.{in-flow, in-table, in-injections, in-branches, in-none}
+use Rattle.spaces.specs.InsideSpaces.{in-flow, in-table, in-injections, in-branches, in-none}
 use Rattle.spaces.proofs.set_place.Statement.{statement}
 use Rattle.spaces.proofs.set_place.Tie as tie
 

@@ -1,11 +1,12 @@
+-- `set_signed` sets the place that the command names to a signed number; a bad command changes nothing.
 use borrow.Author.Needs.{needs, sfits-of}
 use native.Mathlib.Omega.{arith}
 use mathlib.Core.Path.{ap, _∙_}
-use Rattle.spaces.proofs.Setting.{set-short, set-beyond, set-done}
+use Rattle.spaces.proofs.SetOrUnchanged.{set-short, set-beyond, set-done}
 use mir.Syntax.{w32}
 use mir.Val.{SFits}
 use mir.Facts.{toZ-ofZ}
-use Rattle.spaces.specs.Stream.{signedFrom}
+use Rattle.spaces.specs.InsideStream.{signedFrom}
 use Rattle.spaces.proofs.set_signed.Statement.{statement}
 use Rattle.spaces.proofs.set_signed.Tie as tie
 

@@ -1,3 +1,4 @@
+-- The loop over the commands: what is left of the stream stands within the input, and the book within its space; the turns fall.
 use borrow.Author.Needs.{needs}
 use native.Mathlib.Omega.{arith}
 use mathlib.Core.Path.{_≡_, _∙_}

@@ -1,10 +1,11 @@
+-- `refill` leaves the rest of the input at its front and what is read after it.
 use borrow.Author.Needs.{needs}
 use native.Mathlib.Omega.{arith}
 use mathlib.Core.Path.{_∙_}
 use Prim.Native.Nat.{ℕ, _-_}
 use lib.ListN.{length}
 use borrow.Rule.Slice.PartMut.{same-len-mid}
-use Rattle.trial.proofs.Moving.{Moving, moving-none, moving-more, refilled}
+use Rattle.trial.proofs.MovedToFront.{Moving, moving-none, moving-more, refilled}
 use Rattle.trial.proofs.refill.Statement.{statement}
 use Rattle.trial.proofs.refill.Tie as tie
 

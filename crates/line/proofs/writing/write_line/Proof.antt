@@ -1,3 +1,4 @@
+-- `write_line` adds the newline to the line that it writes.
 use borrow.Author.Needs.{needs}
 use native.Mathlib.Omega.{arith}
 use mathlib.Core.Path.{sym}

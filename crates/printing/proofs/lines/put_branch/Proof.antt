@@ -1,3 +1,4 @@
+-- `put_branch` adds the number of a branch and what its record shows: each verdict by one law.
 use borrow.Author.Needs.{needs}
 use native.Mathlib.Omega.{arith}
 use Rattle.line.proofs.Adding.{added-same, added-then}
@@ -22,7 +23,7 @@ returns c =
     let word = c .before .before in
     let test = word .before .before .before in
     let number = test .before .before .before in (
-      added-then (number .put-decimal .ensures .0) (added-same (shown-out (number .before .before .before .before .args .shown) (test .if1 .taken)) (word .put .ensures)),
+      added-then (number .put-decimal .ensures .0) (added-same (shown-out (number .before .before .before .before .args .entry) (test .if1 .taken)) (word .put .ensures)),
       omega (arith, number .put-decimal .ensures .1, word .put .ensures .ends),
     )
 
@@ -41,7 +42,7 @@ returns-2 c =
     let test = word .before .before .before in
     let number = test .before .before .before .before in (
       added-then (number .put-decimal .ensures .0)
-          (added-same (shown-carries (number .before .before .before .before .args .shown) (test .before .if1 .left) (test .if2 .taken)) (word .put2 .ensures)),
+          (added-same (shown-carries (number .before .before .before .before .args .entry) (test .before .if1 .left) (test .if2 .taken)) (word .put2 .ensures)),
       omega (arith, number .put-decimal .ensures .1, word .put2 .ensures .ends),
     )
 
@@ -64,7 +65,7 @@ returns-3 c =
     let test = word .before .before .before in
     let number = test .before .before .before .before in (
       added-then (number .put-decimal .ensures .0)
-          (added-same (shown-short (number .before .before .before .before .args .shown) (test .before .if1 .left) (test .if2 .left))
+          (added-same (shown-short (number .before .before .before .before .args .entry) (test .before .if1 .left) (test .if2 .left))
           (added-then (word .put3 .ensures) (short .put-short .ensures .0))),
       omega (arith, number .put-decimal .ensures .1, word .put3 .ensures .ends, short .put-short .ensures .1),
     )

@@ -1,3 +1,4 @@
+-- `put_head` adds the bus count and the branch count.
 use borrow.Author.Needs.{needs}
 use native.Mathlib.Omega.{arith}
 use Rattle.line.proofs.Adding.{added-then}

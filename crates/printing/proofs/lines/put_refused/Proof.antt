@@ -1,3 +1,4 @@
+-- `put_refused` adds the number of a refusal, and for 12 the shortage and the group.
 use borrow.Author.Needs.{needs}
 use native.Mathlib.Omega.{arith}
 use Rattle.line.proofs.Adding.{added-same, added-then}

@@ -1,3 +1,4 @@
+-- `put_short` adds the shortage and the group.
 use borrow.Author.Needs.{needs}
 use native.Mathlib.Omega.{arith}
 use Rattle.line.proofs.Adding.{added-then}

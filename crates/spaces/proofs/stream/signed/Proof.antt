@@ -1,3 +1,4 @@
+-- `signed` gives the number that four bytes stand for in two's complement.
 use borrow.Author.Needs.{needs}
 use native.Mathlib.Omega.{arith}
 use mathlib.Core.Path.{_≡_, refl}

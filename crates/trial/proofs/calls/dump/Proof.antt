@@ -1,3 +1,4 @@
+-- `dump` writes all 256 records, each from its own 52 bytes of the table.
 use borrow.Author.Needs.{needs}
 use native.Mathlib.Omega.{arith}
 use mathlib.Core.Path.{_≡_}

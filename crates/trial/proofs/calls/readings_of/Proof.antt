@@ -1,9 +1,10 @@
+-- `readings_of` fills the first numbers with the readings of the command.
 use borrow.Author.Needs.{needs}
 use native.Mathlib.Omega.{arith}
 use Prim.Native.Nat.{_-_}
 use Prim.Native.Nat.{_+_, _*_}
-use Rattle.book.proofs.Tables.{Filling, fill-start, fill-more, fill-end}
-use Rattle.spaces.specs.Stream.{fourAt}
+use Rattle.book.proofs.Filling.{Filling, fill-start, fill-more, fill-end}
+use Rattle.spaces.specs.InsideStream.{fourAt}
 use Rattle.trial.proofs.calls.readings_of.Statement.{statement}
 use Rattle.trial.proofs.calls.readings_of.Tie as tie
 

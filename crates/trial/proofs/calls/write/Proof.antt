@@ -1,20 +1,19 @@
+-- `write` leaves the length of the book that it wrote, or the one that it had: both are within the space.
 use borrow.Author.Needs.{needs}
 use native.Mathlib.Omega.{arith}
+use borrow.Rule.Slice.PartMut.{mid-len}
 use Rattle.trial.proofs.Written.{written}
 use Rattle.trial.proofs.calls.write.Statement.{statement}
 use Rattle.trial.proofs.calls.write.Tie as tie
 
-two-requires : tie.Need-two-requires
-two-requires c κs = search needs
+sub-write-book : tie.Need-sub-write-book
+sub-write-book c = search needs
 
-two-requires-2 : tie.Need-two-requires-2
-two-requires-2 c κs = search needs
+part-write-book-start : tie.Need-part-write-book-start
+part-write-book-start c = search needs
 
-two-requires-3 : tie.Need-two-requires-3
-two-requires-3 c κs = search needs
-
-cast-factor : tie.Need-cast-factor
-cast-factor c = search needs
+part-write-book-end : tie.Need-part-write-book-end
+part-write-book-end c = search needs
 
 write-book-requires : tie.Need-write-book-requires
 write-book-requires c κs = search needs
@@ -41,16 +40,19 @@ same-length-2 : tie.Need-same-length-2
 same-length-2 c = search needs
 
 returns-2 : tie.Need-returns-2
-returns-2 c = let w = written (c .before .before .before .before .before .before .before .write-book .ensures) (c .before .enum-told .given .1) in omega (arith, w .fits, c .bytes-for .ensures)
+returns-2 c =
+    let wrote = c .before .before .before .before .before .before .before in
+    let start = wrote .before .before .before .before in
+    let w = written (wrote .write-book .ensures) (c .before .enum-told .given .1) in
+    omega (arith, w .fits, mid-len 0 (start .args .room) (start .args .book .now) (start .pre .0), start .pre .0, c .bytes-for .ensures)
 
 pub write-spec : {M : Type 1} → statement M
 write-spec =
     tie.close
     (tie.spec
-    two-requires
-    two-requires-2
-    two-requires-3
-    cast-factor
+    sub-write-book
+    part-write-book-start
+    part-write-book-end
     write-book-requires
     slice-aggregate-answer-line
     answer-line-requires

@@ -1,0 +1,3 @@
+pub mod Measuring
+pub mod Tallying
+pub mod Fitting

@@ -1,4 +1,0 @@
-pub mod Net
-pub mod Flow
-pub mod Reach
-pub mod Excess

@@ -1,0 +1,84 @@
+-- Document 01's triangle book, and one book for each refusal, by computation.
+use mathlib.Core.Path.{_≡_, refl}
+use mathlib.Core.List.{List, [], _∷_}
+use Prim.Native.Nat.{ℕ}
+use lib.IntN.{pos, negsuc}
+use Rattle.rows.specs.Row.{upTo}
+use Rattle.quantity.specs.Rating.{inKva}
+use Rattle.rows.specs.Bit.{bitAt}
+use Rattle.rows.specs.Sum.{over}
+use Rattle.bits.specs.Field.{field, withBit, setBit, put}
+use Rattle.bits.specs.Fields.{putItems}
+use Rattle.layout.specs.Book.{Book}
+use Rattle.layout.specs.Fault.{busFault, branchFault, firstFault}
+use Rattle.layout.specs.Layout.{bytesFor, bookOf, packed, encode}
+use Rattle.layout.specs.Check.{checkOf, decode, book, refused}
+
+abbrev pub triangle : Book
+triangle = record {
+  factor = 1000;
+  injections = pos 30 ∷ negsuc 9 ∷ negsuc 19 ∷ [];
+  branches = record { first = 0; second = 1; kva = inKva 40; status = 1 } ∷ record { first = 0; second = 2; kva = inKva 40; status = 1 } ∷ record { first = 1; second = 2; kva = inKva 30; status = 1 } ∷ [];
+}
+
+-- 03 01 FD 00 00 00 F4 00 02 A0 00 28 00 08 00 14 40 02 00 02 88 10 40 00 3D
+abbrev pub triangleBytes : List ℕ
+triangleBytes = 3 ∷ 1 ∷ 253 ∷ 0 ∷ 0 ∷ 0 ∷ 244 ∷ 0 ∷ 2 ∷ 160 ∷ 0 ∷ 40 ∷ 0 ∷ 8 ∷ 0 ∷ 20 ∷ 64 ∷ 2 ∷ 0 ∷ 2 ∷ 136 ∷ 16 ∷ 64 ∷ 0 ∷ 61 ∷ []
+
+pub triangle-decodes : decode triangleBytes ≡ book triangle
+unfolding decode checkOf bookOf firstFault busFault branchFault over upTo field bitAt
+triangle-decodes = refl
+
+pub triangle-encodes : encode triangle ≡ triangleBytes
+unfolding encode packed putItems put setBit withBit
+triangle-encodes = refl
+
+largest : bytesFor 128 256 ≡ 1460
+largest = refl
+
+-- ---- refusals
+
+-- Under 4 bytes.
+short : decode (3 ∷ 1 ∷ 253 ∷ []) ≡ refused 1
+unfolding decode checkOf
+short = refl
+
+-- No bus, before a header fill bit.
+no-bus : decode (0 ∷ 0 ∷ 0 ∷ 33 ∷ []) ≡ refused 2
+unfolding decode checkOf field bitAt
+no-bus = refl
+
+-- A header fill bit, before the length.
+header-fill : decode (1 ∷ 0 ∷ 125 ∷ 1 ∷ []) ≡ refused 3
+unfolding decode checkOf field bitAt
+header-fill = refl
+
+-- A byte too few, before a minus zero.
+too-few : decode (1 ∷ 0 ∷ 125 ∷ 0 ∷ 128 ∷ 0 ∷ []) ≡ refused 1
+unfolding decode checkOf field bitAt
+too-few = refl
+
+-- A byte too many.
+too-many : decode (1 ∷ 0 ∷ 125 ∷ 0 ∷ 0 ∷ 0 ∷ 0 ∷ 0 ∷ []) ≡ refused 1
+unfolding decode checkOf field bitAt
+too-many = refl
+
+-- One bus at minus zero, before a tail fill bit.
+minus-zero : decode (1 ∷ 0 ∷ 125 ∷ 0 ∷ 128 ∷ 0 ∷ 1 ∷ []) ≡ refused 4
+unfolding decode checkOf firstFault busFault field bitAt
+minus-zero = refl
+
+-- A branch from bus 0 to bus 0, before a tail fill bit.
+equal-ends : decode (2 ∷ 0 ∷ 253 ∷ 0 ∷ 0 ∷ 0 ∷ 0 ∷ 0 ∷ 0 ∷ 0 ∷ 0 ∷ 0 ∷ 0 ∷ 1 ∷ []) ≡ refused 5
+unfolding decode checkOf firstFault busFault branchFault field bitAt
+equal-ends = refl
+
+-- A tail fill bit, before a sum of 1 kW.
+tail-fill : decode (1 ∷ 0 ∷ 125 ∷ 0 ∷ 0 ∷ 0 ∷ 9 ∷ []) ≡ refused 6
+unfolding decode checkOf firstFault busFault field bitAt
+tail-fill = refl
+
+-- A sum of 1 kW.
+not-balanced : decode (1 ∷ 0 ∷ 125 ∷ 0 ∷ 0 ∷ 0 ∷ 8 ∷ []) ≡ refused 7
+unfolding decode checkOf firstFault busFault over field bitAt
+not-balanced = refl

@@ -1,0 +1,55 @@
+-- `put_branch` puts the four fields of branch k at its place.
+use borrow.Author.Needs.{needs}
+use Rattle.layout.proofs.FieldsPut.{branch-put}
+use Rattle.layout.proofs.put_branch.Statement.{statement}
+use Rattle.layout.proofs.put_branch.Tie as tie
+
+branch-place-requires : tie.Need-branch-place-requires
+branch-place-requires c κs = search needs
+
+put-requires : tie.Need-put-requires
+put-requires c κs = search needs
+
+add-put : tie.Need-add-put
+add-put c = search needs
+
+put-requires-2 : tie.Need-put-requires-2
+put-requires-2 c κs = search needs
+
+add-put-2 : tie.Need-add-put-2
+add-put-2 c = search needs
+
+put-requires-3 : tie.Need-put-requires-3
+put-requires-3 c κs = search needs
+
+add-put-3 : tie.Need-add-put-3
+add-put-3 c = search needs
+
+put-requires-4 : tie.Need-put-requires-4
+put-requires-4 c κs = search needs
+
+same-length : tie.Need-same-length
+same-length c = search needs
+
+returns : tie.Need-returns
+returns c =
+    let c₄ = c .before .before in
+    let c₃ = c₄ .before .before .before .before in
+    let c₂ = c₃ .before .before .before .before in
+    let c₁ = c₂ .before .before .before .before in
+    branch-put _ _ _ _ _ _ _ _ _ (c₁ .before .before .branch-place .ensures) (c₁ .put .ensures) (c₂ .put2 .ensures) (c₃ .put3 .ensures) (c₄ .put4 .ensures)
+
+pub put-branch-spec : {M : Type 1} → statement M
+put-branch-spec =
+    tie.close
+    (tie.spec
+    branch-place-requires
+    put-requires
+    add-put
+    put-requires-2
+    add-put-2
+    put-requires-3
+    add-put-3
+    put-requires-4
+    same-length
+    returns)

@@ -1,0 +1,33 @@
+-- The header, a bus and sums of injections as inner functions pass them.
+use mathlib.Core.Path.{_≡_}
+use mathlib.Core.List.{List, [], _∷_}
+use Prim.Native.Nat.{ℕ, _+_}
+use lib.IntN.{ℤ}
+use Rattle.rows.specs.Row.{nth}
+use Rattle.quantity.specs.Signed.{posPart, negPart}
+use Rattle.layout.specs.declared.Head.{Head}
+use Rattle.layout.specs.declared.Sums.{Sums}
+use Rattle.layout.specs.declared.Bus.{Bus}
+use Rattle.layout.specs.Layout.{busesIn, branchesIn, factorIn, spareIn}
+
+-- The header that bs has, and the fields of one.
+pub record HeadRead (bs : List ℕ) (h : Head) : Type 0 where
+  pub buses-are : h .buses ≡ busesIn bs
+  pub branches-are : h .branches ≡ branchesIn bs
+  pub factor-is : h .factor ≡ factorIn bs
+  pub spare-is : h .spare ≡ spareIn bs
+
+abbrev pub headFields : Head → List ℕ
+headFields h = h .buses ∷ h .branches ∷ h .factor ∷ h .spare ∷ []
+
+-- A bus of its fields, and the fields of one.
+abbrev pub busFrom : List ℕ → Bus
+busFrom vs = record { sign = nth vs 0; size = nth vs 1 }
+
+abbrev pub busFields : Bus → List ℕ
+busFields x = x .sign ∷ x .size ∷ []
+
+-- An injection more, counted in.
+pub record CountedIn (s : Sums) (x : ℤ) (r : Sums) : Type 0 where
+  pub enters-more : r .enters ≡ s .enters + posPart x
+  pub leaves-more : r .leaves ≡ s .leaves + negPart x

@@ -1,0 +1,44 @@
+// The text of a group and that of an answer, added to a line.
+ghost use mathlib.Core.List.{_++_};
+ghost use Prim.Native.Nat.{_+_, _≤_};
+ghost use lib.ListN.{length};
+ghost use Rattle.line.specs.Inside.{Added};
+ghost use Rattle.line.specs.AnswerText.{groupText, answerText};
+use crate::put;
+use crate::put_next;
+use answer::Answer;
+use answer::number_of;
+use answer::shortage_of;
+
+// The number of buses in the group, and these in rising order.
+pub fn put_group(out: &mut [u8], at: usize, group: [u8; 16]) -> usize
+    requires { ⌜ at + 2709 ≤ length (now out) ⌝ }
+    ensures { λ r. ⌜ Added (groupText group) (now (out .entry)) at (now (out .exit)) r ⌝ }
+    ensures { λ r. ⌜ r ≤ at + 2709 ⌝ }
+{
+    let members = listing::unpack(group);
+    let flags = members.flags;
+    let mut end = put_next(out, at, members.count as u64);
+    let mut i: usize = 0;
+    while i < 128 {
+        if flags[i] == 1 {
+            end = put_next(out, end, i as u64);
+        }
+        i += 1;
+    }
+    end
+}
+
+// A word, then the number of the answer, its shortage and its group.
+pub fn put_answer(out: &mut [u8], word: &[u8], answer: Answer) -> usize
+    requires { ⌜ length (now word) + 2751 ≤ length (now out) ⌝ }
+    ensures { λ r. ⌜ Added (now (word .entry) ++ answerText answer) (now (out .entry)) 0 (now (out .exit)) r ⌝ }
+    ensures { λ r. ⌜ r ≤ length (now (word .entry)) + 2751 ⌝ }
+{
+    let outcome = answer.outcome;
+    let group = answer.group;
+    let after_word = put(out, 0, word);
+    let after_number = put_next(out, after_word, number_of(outcome) as u64);
+    let after_shortage = put_next(out, after_number, shortage_of(outcome) as u64);
+    put_group(out, after_shortage, group)
+}

@@ -1,0 +1,9 @@
+pub mod TrueRecords
+pub mod BranchByBranch
+pub mod Rewriting
+pub mod Opening
+pub mod Base
+pub mod Lending
+pub mod Status
+pub mod Checked
+pub mod ProperAnswer

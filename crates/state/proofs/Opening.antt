@@ -1,0 +1,110 @@
+-- From an accepted book to the rows of its case.
+use mathlib.Core.Path.{_≡_, refl, ap, _∙_, fun-ext}
+use mathlib.Core.Bool.{Bool, false}
+use mathlib.Core.List.{List}
+use Prim.Native.Nat.{ℕ, _*_, _≤_, _<_}
+use native.Mathlib.Omega.{arith}
+use native.Mathlib.Nat.{mul-le-mul}
+use lib.Dec.{eqb}
+use lib.IntN.{pos}
+use lib.ListN.{getD, List·getD-eq-default}
+use Rattle.rows.specs.Row.{nth}
+use Rattle.rows.specs.Sum.{pick}
+use Rattle.rows.proofs.Sum.{side, below, equal, above}
+use Rattle.quantity.specs.Rating.{limitOf}
+use Rattle.quantity.specs.Signed.{posPart, negPart}
+use Rattle.quantity.proofs.Parts.{size-parts}
+use Rattle.layout.specs.Book.{Book, buses, count, injection, branch, noBranch, WellFormed}
+use Rattle.book.specs.Inside.{RowsRead}
+use Rattle.book.specs.declared.CaseRows.{CaseRows}
+use Rattle.verdict.specs.Case.{Posed}
+use Rattle.state.specs.Case.{caseOf}
+use Rattle.state.specs.Inside.{Plannable, Planned, Held}
+use Rattle.state.specs.declared.Plan.{Plan}
+
+limit-small : (kva factor : ℕ) → kva ≤ 1000000 → factor ≤ 1000 → limitOf kva factor ≤ 1000000
+limit-small kva factor h g = let m : kva * factor ≤ 1000000 * 1000 = mul-le-mul h g in omega arith
+
+-- A well-formed book makes a case that can be judged.
+pub posed : (b : Book) → WellFormed b → Posed (caseOf b)
+unfolding caseOf
+posed b w = record {
+  some-bus = w .some-bus;
+  few-buses = w .few-buses;
+  few-branches = w .few-branches;
+  first-in = λ k u. w .good k u .first-there;
+  second-in = λ k u. w .good k u .second-there;
+  apart = λ k u. w .good k u .apart;
+  sized = λ i u. omega (arith, w .sizes i u, size-parts (injection b i));
+  balanced = w .balanced;
+  rated = λ k u. limit-small (branch b k .kva .0) (b .factor) (w .good k u .rating) (w .small-factor);
+  rising = λ k u. omega arith;
+}
+
+module _ (b : Book) (w : WellFormed b) (r : CaseRows) (h : RowsRead b r) where
+  pub plannable : Plannable r
+  plannable = record {
+    wired = record {
+      few = omega (arith, w .few-buses, h .buses-are);
+      size = omega (arith, w .few-branches, h .branches-are);
+      first-in = λ k u. omega (arith, h .first-is k, h .buses-are, w .good k (omega (arith, h .branches-are)) .first-there);
+      second-in = λ k u. omega (arith, h .second-is k, h .buses-are, w .good k (omega (arith, h .branches-are)) .second-there);
+    };
+  }
+
+  module _ (q : Plan) (p : Planned r q) where
+    -- Past the last branch nothing is in service.
+    past : (k : ℕ) → count b ≤ k → branch b k ≡ noBranch
+    past k u = List·getD-eq-default (b .branches) noBranch {n = k} u
+
+    live-at : (k : ℕ) → nth (q .live) k ≡ pick (eqb (branch b k .status) 1) (limitOf (branch b k .kva .0) (b .factor))
+    live-at k = elim (side k (count b)) [
+      | below l ↦ within l
+      | equal l ↦ beyond (omega arith)
+      | above l ↦ beyond (omega arith)
+    ]
+      where
+        within : k < count b → nth (q .live) k ≡ pick (eqb (branch b k .status) 1) (limitOf (branch b k .kva .0) (b .factor))
+        within l = p .live-row .in-service k (omega (arith, h .branches-are)) ∙ rw (h .served-is k, h .limit-is k) refl
+
+        beyond : count b ≤ k → nth (q .live) k ≡ pick (eqb (branch b k .status) 1) (limitOf (branch b k .kva .0) (b .factor))
+        beyond l = p .live-row .elsewhere k (omega (arith, h .branches-are)) ∙ rw (past k l) refl
+
+    pub held : Held (caseOf b) (q .wires) (q .served) (q .live)
+    unfolding caseOf
+    held = record {
+      posed = posed b w;
+      linked = p .wiring .linked;
+      buses-are = p .wiring .same-buses ∙ h .buses-are;
+      branches-are = p .wiring .same-branches ∙ h .branches-are;
+      first-is = ap nth (p .wiring .same-first) ∙ fun-ext (h .first-is);
+      second-is = ap nth (p .wiring .same-second) ∙ fun-ext (h .second-is);
+      served-is = λ k. ap (λ (l : List Bool). getD l k false) (p .same-served) ∙ h .served-is k;
+      live-is = fun-ext live-at;
+    }
+
+    pub gain-is : nth (q .gain) ≡ (λ i. posPart (caseOf b .injection i))
+    unfolding caseOf
+    gain-is = ap nth (p .same-gain) ∙ fun-ext (h .gain-is)
+
+    pub load-is : nth (q .load) ≡ (λ i. negPart (caseOf b .injection i))
+    unfolding caseOf
+    load-is = ap nth (p .same-load) ∙ fun-ext (h .load-is)
+
+-- Gains and loads are small at every bus, and past the last one.
+pub small-injections : (b : Book) → WellFormed b → (gain load : List ℕ) → nth gain ≡ (λ i. posPart (caseOf b .injection i)) → nth load ≡ (λ i. negPart (caseOf b .injection i))
+    → (i : ℕ) → (nth gain i ≤ 2000000) × (nth load i ≤ 2000000)
+unfolding caseOf
+small-injections b w gain load g l i =
+    let gi : nth gain i ≡ posPart (injection b i) = ap (λ (m : ℕ → ℕ). m i) g in
+    let li : nth load i ≡ negPart (injection b i) = ap (λ (m : ℕ → ℕ). m i) l in
+    elim (side i (buses b)) [
+      | below u ↦ (omega (arith, gi, w .sizes i u, size-parts (injection b i)), omega (arith, li, w .sizes i u, size-parts (injection b i)))
+      | equal u ↦ none (omega arith) gi li
+      | above u ↦ none (omega arith) gi li
+    ]
+  where
+    none : buses b ≤ i → nth gain i ≡ posPart (injection b i) → nth load i ≡ negPart (injection b i) → (nth gain i ≤ 2000000) × (nth load i ≤ 2000000)
+    none u gi li =
+        let e : injection b i ≡ pos 0 = List·getD-eq-default (b .injections) (pos 0) {n = i} u in
+        (omega (arith, gi, ap posPart e), omega (arith, li, ap negPart e))

@@ -1,0 +1,87 @@
+-- The book with one status bit set or cleared makes the case with that branch in or out of service.
+use mathlib.Core.Path.{_≡_, refl, sym, ap, _∙_, fun-ext}
+use mathlib.Core.Bool.{cond}
+use mathlib.Core.List.{List}
+use Prim.Native.Nat.{ℕ, _<_}
+use native.Mathlib.Omega.{arith}
+use native.Mathlib.Decide.{ℕ-discrete}
+use borrow.Author.Tests.{eq-eqb, ne-eqb}
+use lib.Dec.{eqb}
+use lib.ListN.{length-set}
+use lib.Seq.{getD-set-same, getD-set-other}
+use Rattle.answer.specs.declared.Outcome.the-variants.{Accepted}
+use Rattle.quantity.specs.Rating.{limitOf}
+use Rattle.bits.specs.Field.{setBit}
+use Rattle.layout.specs.declared.Branch.{Branch}
+use Rattle.layout.specs.Book.{Book, count, branch, noBranch, restated}
+use Rattle.layout.specs.Book as book
+use Rattle.layout.specs.Layout.{busesIn, branchesIn, statusBit, bookOf}
+use Rattle.layout.specs.Check.{checkOf}
+use Rattle.layout.proofs.WellFormed.{count-of}
+use Rattle.layout.proofs.StatusChanged.{status-accepted, status-book}
+use Rattle.verdict.specs.Case.{Case, withStatus}
+use Rattle.state.specs.Case.{caseOf, caseIn}
+use Rattle.verdict.proofs.Loss.{Level}
+
+-- ---- The book with branch k's status made v.
+module _ (B : Book) (k v : ℕ) (there : k < count B) where
+  abbrev restatus : Book
+  restatus = book.withStatus B k v
+
+  same-of : {A : Type 0} (f : Branch → A) → ((x : Branch) → f (restated x v) ≡ f x) → (j : ℕ) → f (branch restatus j) ≡ f (branch B j)
+  same-of f h j = go (ℕ-discrete j k)
+    where
+      go : Dec (j ≡ k) → f (branch restatus j) ≡ f (branch B j)
+      go (yes e) = rw e (ap f (getD-set-same (B .branches) k (restated (branch B k) v) noBranch there) ∙ h (branch B k))
+      go (no n) = ap f (getD-set-other (B .branches) k j (restated (branch B k) v) noBranch n)
+
+  served-of : (j : ℕ) → eqb (branch restatus j .status) 1 ≡ cond (eqb j k) (eqb v 1) (eqb (branch B j .status) 1)
+  served-of j = go (ℕ-discrete j k)
+    where
+      go : Dec (j ≡ k) → eqb (branch restatus j .status) 1 ≡ cond (eqb j k) (eqb v 1) (eqb (branch B j .status) 1)
+      go (yes e) = rw (e, eq-eqb k k refl) (ap (λ (x : Branch). eqb (x .status) 1) (getD-set-same (B .branches) k (restated (branch B k) v) noBranch there))
+      go (no n) = rw (ne-eqb j k n) (ap (λ (x : Branch). eqb (x .status) 1) (getD-set-other (B .branches) k j (restated (branch B k) v) noBranch n))
+
+  case-restatus : caseOf restatus ≡ withStatus (caseOf B) k (eqb v 1)
+  unfolding caseOf
+  case-restatus =
+      let b = length-set (B .branches) k (restated (branch B k) v) in
+      let f = fun-ext (same-of (λ x. x .first) (λ x. refl)) in
+      let g = fun-ext (same-of (λ x. x .second) (λ x. refl)) in
+      let s = fun-ext served-of in
+      let l = fun-ext (same-of (λ x. limitOf (x .kva .0) (B .factor)) (λ x. refl)) in
+      λ i. record {
+        buses = book.buses B;
+        branches = b i;
+        first = f i;
+        second = g i;
+        served = s i;
+        injection = book.injection B;
+        limit = l i;
+        loss-limit = l i;
+      }
+
+pub branches-of : (bs : List ℕ) → caseIn bs .branches ≡ branchesIn bs
+unfolding caseOf
+branches-of bs = count-of bs
+
+-- A case of a book has the same limits before and after an outage.
+pub level-of : (bs : List ℕ) → Level (caseIn bs)
+unfolding caseOf
+level-of bs = refl
+
+-- The bytes with the one status bit made v: an accepted book, and the case with the branch in or out of service.
+pub record Restated (bs : List ℕ) (b v : ℕ) (bs′ : List ℕ) : Type 0 where
+  pub book : checkOf bs′ ≡ Accepted
+  pub case-is : caseIn bs′ ≡ withStatus (caseIn bs) b (eqb v 1)
+  pub count-is : branchesIn bs′ ≡ branchesIn bs
+
+pub restates : (bs : List ℕ) (b v : ℕ) → checkOf bs ≡ Accepted → b < branchesIn bs → v < 2 → Restated bs b v (setBit bs (statusBit (busesIn bs) b) v)
+restates bs b v e l u =
+    let bs′ = setBit bs (statusBit (busesIn bs) b) v in
+    let c : caseIn bs′ ≡ withStatus (caseIn bs) b (eqb v 1) = ap caseOf (status-book bs e b v l u) ∙ case-restatus (bookOf bs) b v (omega (arith, count-of bs)) in
+    record {
+      book = status-accepted bs e b v l u;
+      case-is = c;
+      count-is = sym (branches-of bs′) ∙ ap (λ (C : Case). C .branches) c ∙ branches-of bs;
+    }

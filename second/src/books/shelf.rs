@@ -1,0 +1,57 @@
+//! The named books and inputs whose lists are stored: document 01's two books, marked examples, damaged inputs.
+
+use crate::books::plain::{plain, with_out};
+use crate::books::sources;
+use crate::definitions::book::{pack, Book};
+
+/// Document 01's triangle, with the rating of its branch 1-2.
+pub fn triangle(last: u32) -> Book {
+    plain(&[30, -10, -20], &[(0, 1, 40), (0, 2, 40), (1, 2, last)])
+}
+
+/// Document 01's second book, with the rating of its branch 1-2.
+pub fn second_book(last: u32) -> Book {
+    plain(&[60, 0, -40, -20], &[(0, 1, 40), (0, 2, 40), (1, 2, last), (2, 3, 30)])
+}
+
+/// 1,461 bytes that start with these: longer than any book.
+pub fn too_long(start: &[u8]) -> Vec<u8> {
+    let mut bytes = start.to_vec();
+    bytes.resize(1461, 0);
+    bytes
+}
+
+/// The largest book: 128 buses in a ring with chords, 256 branches, at power factor 999.
+pub fn largest() -> Book {
+    let injections: Vec<i64> = (0..128).map(|bus| if bus % 2 == 0 { 400 + bus } else { 0 - 400 - (bus - 1) }).collect();
+    let ring = (0..128).map(|bus| (bus, (bus + 1) % 128, 900 + 3 * bus as u32));
+    let chords = (0..128).map(|bus| (bus, (bus + 11) % 128, 150 + 7 * (bus as u32 % 9)));
+    let mut book = plain(&injections, &ring.chain(chords).collect::<Vec<_>>());
+    book.factor = 999;
+    book
+}
+
+/// Names and bytes of every stored input.
+pub fn inputs() -> Vec<(&'static str, Vec<u8>)> {
+    vec![
+        ("triangle", pack(&triangle(30))),
+        ("second", pack(&second_book(25))),
+        ("example-b", pack(&with_out(triangle(30), 0))),
+        ("example-d", pack(&triangle(20))),
+        ("example-e", pack(&triangle(19))),
+        ("example-j", pack(&second_book(15))),
+        ("example-k", pack(&plain(&[0], &[]))),
+        ("tie", pack(&plain(&[5, 0, -5], &[(0, 2, 5), (0, 1, 3), (1, 2, 3)]))),
+        ("rounding", pack(&Book { factor: 999, ..plain(&[1000, -1000], &[(0, 1, 1000), (0, 1, 1000), (0, 1, 1)]) })),
+        ("largest", pack(&largest())),
+        ("source-five", pack(&sources::five_bus())),
+        ("source-five-out", pack(&with_out(sources::five_bus(), sources::FIVE_3_5))),
+        ("source-five-moved", pack(&sources::five_bus_moved())),
+        ("source-seven", pack(&sources::seven_bus())),
+        ("source-ten", pack(&sources::ten_bus(&sources::TEN_SPLIT))),
+        ("empty", Vec::new()),
+        ("long-2", too_long(&[0, 0, 0, 0])),
+        ("long-3", too_long(&[0x80, 0x80, 0x7D, 0x01])),
+        ("long-1", too_long(&pack(&largest()))),
+    ]
+}

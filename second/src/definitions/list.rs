@@ -1,0 +1,26 @@
+//! The list that `outages` prints for a book.
+
+use crate::definitions::answer::counted;
+use crate::definitions::network::{Network, Verdict};
+use crate::definitions::screen;
+
+/// The whole output for an input of any length.
+pub fn list(bytes: &[u8]) -> String {
+    match screen::screened(bytes, usize::MAX, usize::MAX) {
+        Err(answer) if answer.number == 12 => format!("refused 12 {}{}\n", answer.shortage, counted(answer.group)),
+        Err(answer) => format!("refused {}\n", answer.number),
+        Ok(network) => accepted(&network),
+    }
+}
+
+fn accepted(network: &Network) -> String {
+    let mut text = format!("{} {}\n", network.buses(), network.lines.len());
+    for (number, verdict) in screen::verdicts(network).into_iter().enumerate() {
+        text += &match verdict {
+            Verdict::Out => format!("{number} out\n"),
+            Verdict::Carries => format!("{number} carries\n"),
+            Verdict::Short(excess) => format!("{number} short {}{}\n", excess.amount, counted(excess.group)),
+        };
+    }
+    text
+}

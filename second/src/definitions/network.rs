@@ -1,0 +1,94 @@
+//! What a book means: limits in kW, which flow fits, and the words of a verdict.
+
+use crate::definitions::book::{Book, Branch};
+
+/// A group of buses: bus k is bit k.
+pub type Group = u128;
+
+#[derive(Clone, Debug)]
+pub struct Line {
+    pub first: usize,
+    pub second: usize,
+    pub limit: i64,
+    pub served: bool,
+}
+
+#[derive(Clone, Debug)]
+pub struct Network {
+    pub injections: Vec<i64>,
+    pub lines: Vec<Line>,
+}
+
+/// A largest P(S) - R(S) and the smallest group that reaches it.
+#[derive(Clone, Copy, Debug, PartialEq, Eq)]
+pub struct Excess {
+    pub amount: i64,
+    pub group: Group,
+}
+
+#[derive(Clone, Copy, Debug, PartialEq, Eq)]
+pub enum Verdict {
+    Out,
+    Carries,
+    Short(Excess),
+}
+
+/// kVA times power factor divided by 1000, rounded down: the one step from kVA to kW.
+pub fn limit_in_kw(kva: u32, factor: u32) -> i64 {
+    kva as i64 * factor as i64 / 1000
+}
+
+pub fn members(group: Group) -> Vec<usize> {
+    (0..128).filter(|&bus| group >> bus & 1 == 1).collect()
+}
+
+pub fn holds(group: Group, bus: usize) -> bool {
+    group >> bus & 1 == 1
+}
+
+impl Network {
+    pub fn of(book: &Book) -> Network {
+        let line =
+            |b: &Branch| Line { first: b.first, second: b.second, limit: limit_in_kw(b.kva, book.factor), served: b.served };
+        Network { injections: book.injections.clone(), lines: book.branches.iter().map(line).collect() }
+    }
+
+    pub fn buses(&self) -> usize {
+        self.injections.len()
+    }
+
+    /// The same network with one branch out of service.
+    pub fn without(&self, branch: usize) -> Network {
+        let mut changed = self.clone();
+        changed.lines[branch].served = false;
+        changed
+    }
+
+    /// Whether a flow (a number a branch) fits.
+    pub fn fits(&self, flow: &[i64]) -> bool {
+        assert_eq!(flow.len(), self.lines.len());
+        let mut left = self.injections.clone();
+        for (line, &kw) in self.lines.iter().zip(flow) {
+            let within = if line.served { kw.abs() <= line.limit } else { kw == 0 };
+            if !within {
+                return false;
+            }
+            left[line.first] -= kw;
+            left[line.second] += kw;
+        }
+        left.iter().all(|&kw| kw == 0)
+    }
+
+    /// For each bus a number of its island; islands are joined by branches in service.
+    pub fn islands(&self) -> Vec<usize> {
+        let mut island: Vec<usize> = (0..self.buses()).collect();
+        for _ in 0..self.buses() {
+            for line in self.lines.iter().filter(|line| line.served) {
+                let least = island[line.first].min(island[line.second]);
+                island[line.first] = least;
+                island[line.second] = least;
+            }
+        }
+        island
+    }
+}

@@ -1,0 +1,71 @@
+//! The screen: which answer is due, when a record or a table is true, and one true table of our own choice.
+
+use crate::definitions::answer::Answer;
+use crate::definitions::book::{self, Book};
+use crate::definitions::cuts::{self, Cutter};
+use crate::definitions::network::{Network, Verdict};
+use crate::definitions::record;
+use crate::definitions::reroutes::{self, Exactly};
+
+/// The book, if it can be read and the lent flow and table are long enough for it; else refusals 1 to 8.
+pub fn opened(bytes: &[u8], flow_room: usize, table_room: usize) -> Result<Book, Answer> {
+    let book = book::unpack(bytes).map_err(Answer::refused)?;
+    let count = book.branches.len();
+    if flow_room < count || table_room < record::SIZE * count {
+        return Err(Answer::refused(8));
+    }
+    Ok(book)
+}
+
+/// The network of a book whose screen is accepted; else the refusal due.
+pub fn screened(bytes: &[u8], flow_room: usize, table_room: usize) -> Result<Network, Answer> {
+    let network = Network::of(&opened(bytes, flow_room, table_room)?);
+    let excess = cuts::base_excess(&network);
+    if excess.amount > 0 {
+        Err(Answer::overloaded(excess))
+    } else {
+        Ok(network)
+    }
+}
+
+/// What is wrong with a record of a network and a fitting flow; `Ok(false)` where the reroute stayed undecided.
+/// The cutter is the network's.
+pub fn record_holds(cutter: &mut Cutter, flow: &[i64], branch: usize, bytes: &[u8]) -> Result<bool, String> {
+    let network = cutter.network;
+    let verdict = cutter.verdict(branch);
+    if verdict != Verdict::Carries {
+        let due = record::bytes(verdict, &[]);
+        return if bytes == due { Ok(true) } else { Err(format!("record {branch} should say {verdict:?}")) };
+    }
+    let named = record::named(bytes, network.lines.len());
+    if bytes != record::bytes(Verdict::Carries, &named) {
+        return Err(format!("record {branch} should say that it carries, with nothing else but a reroute below the count"));
+    }
+    if flow[branch] == 0 {
+        return if named.is_empty() { Ok(true) } else { Err(format!("record {branch} has a reroute though its flow is 0")) };
+    }
+    match reroutes::exactly(network, flow, branch, &named) {
+        Exactly::Yes(_) => Ok(true),
+        Exactly::Undecided => Ok(false),
+        Exactly::No => Err(format!("record {branch}: no fitting flow without it differs exactly on {named:?}")),
+    }
+}
+
+/// A true record of our own choice of reroute.
+pub fn own_record(cutter: &mut Cutter, flow: &[i64], branch: usize) -> [u8; record::SIZE] {
+    let network = cutter.network;
+    let verdict = cutter.verdict(branch);
+    if verdict != Verdict::Carries {
+        return record::bytes(verdict, &[]);
+    }
+    let all: Vec<usize> = (0..flow.len()).collect();
+    let without = reroutes::confined(network, flow, branch, &all).expect("a carrying branch has a reroute");
+    let differs = all.into_iter().filter(|&other| other != branch && without[other] != flow[other]);
+    record::bytes(verdict, &differs.collect::<Vec<_>>())
+}
+
+/// The verdict on every branch of a network whose base excess is 0.
+pub fn verdicts(network: &Network) -> Vec<Verdict> {
+    let mut cutter = Cutter::new(network);
+    (0..network.lines.len()).map(|branch| cutter.verdict(branch)).collect()
+}

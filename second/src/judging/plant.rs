@@ -1,0 +1,195 @@
+//! How a fault is planted: what a wrong program would leave or print at one command of a stream.
+
+use crate::definitions::book;
+use crate::definitions::cuts::{self, Cutter};
+use crate::definitions::network::{Excess, Network, Verdict};
+use crate::definitions::outage;
+use crate::definitions::record::{self, SIZE};
+use crate::definitions::reroutes;
+use crate::definitions::screen;
+use crate::trial::reference::Done;
+use crate::trial::stream::Command;
+
+pub fn all_buses(network: &Network) -> u128 {
+    (0..network.buses()).fold(0, |group, bus| group | 1 << bus)
+}
+
+pub fn line_with(done: &mut Done, first: &str, change: impl FnOnce(&mut Vec<String>)) -> bool {
+    let Some(line) = done.lines.iter_mut().find(|line| line.split(' ').next() == Some(first)) else {
+        return false;
+    };
+    let mut words: Vec<String> = line.split(' ').map(String::from).collect();
+    change(&mut words);
+    let changed = words.join(" ");
+    let differs = changed != *line;
+    *line = changed;
+    differs
+}
+
+pub fn answer_words(done: &mut Done, change: impl FnOnce(&mut Vec<String>)) -> bool {
+    ["screen", "out", "read", "write", "meters"].iter().any(|call| done.lines.first().is_some_and(|line| line.starts_with(call)))
+        && {
+            let first = done.lines[0].split(' ').next().unwrap_or("").to_string();
+            line_with(done, &first, change)
+        }
+}
+
+pub fn refused_12(done: &mut Done, change: impl FnOnce(&mut Vec<String>)) -> bool {
+    done.lines.first().is_some_and(|line| line.split(' ').nth(1) == Some("12")) && answer_words(done, change)
+}
+
+pub fn read_numbers(done: &mut Done, place: usize) -> bool {
+    matches!(done.command, Command::Read { .. }) && line_with(done, "injections", |words| words[place].push('1'))
+}
+
+/// Whether the command is an accepted `S` or `O`; the network is the one after it.
+pub fn accepted(done: &mut Done, plant: impl FnOnce(&Network, &mut Done) -> bool) -> bool {
+    let call = matches!(done.command, Command::Screen { .. } | Command::Out { .. });
+    if !call || done.lines[0].split(' ').nth(1) != Some("0") {
+        return false;
+    }
+    let Ok(book) = book::unpack(done.after.bytes()) else {
+        return false;
+    };
+    plant(&Network::of(&book), done)
+}
+
+pub fn accepted_out(done: &mut Done, plant: impl FnOnce(&Network, usize, &mut Done) -> bool) -> bool {
+    let Command::Out { branch, .. } = *done.command else {
+        return false;
+    };
+    accepted(done, |network, done| plant(network, branch, done))
+}
+
+/// Records that a judge looks at: all after a screen, those on the shortlist after an outage.
+pub fn judged_records(network: &Network, done: &Done) -> Vec<usize> {
+    let count = network.lines.len();
+    match *done.command {
+        Command::Out { branch, .. } => {
+            let listed =
+                outage::shortlist(network, &done.before.table, branch, &done.before.flow[..count], &done.after.flow[..count]);
+            (0..count).filter(|&k| listed[k]).collect()
+        }
+        _ => (0..count).collect(),
+    }
+}
+
+/// Puts other bytes into the first judged record with this verdict for which there are any.
+pub fn first_record(done: &mut Done, verdict: u8, other: impl Fn(&Network, usize, &[u8]) -> Option<[u8; SIZE]>) -> bool {
+    accepted(done, |network, done| {
+        for k in judged_records(network, done) {
+            let bytes = record::stretch(&done.after.table, k);
+            if let Some(changed) = (bytes[0] == verdict).then(|| other(network, k, bytes)).flatten() {
+                let differs = changed != bytes;
+                done.after.table[SIZE * k..SIZE * (k + 1)].copy_from_slice(&changed);
+                return differs;
+            }
+        }
+        false
+    })
+}
+
+pub fn short_record(done: &mut Done, other: impl Fn(&Network, usize, Excess) -> Excess) -> bool {
+    first_record(done, 2, |network, k, bytes| {
+        let excess = Excess { amount: record::shortage(bytes), group: record::group(bytes) };
+        let changed = other(network, k, excess);
+        (changed != excess).then(|| record::bytes(Verdict::Short(changed), &[]))
+    })
+}
+
+/// The largest group that reaches the shortage: what is left when the smallest deficit side is taken away.
+pub fn largest_group(network: &Network, branch: usize, excess: Excess) -> Excess {
+    let mut turned = network.clone();
+    turned.injections.iter_mut().for_each(|kw| *kw = -*kw);
+    match cuts::verdict(&turned, branch) {
+        Verdict::Short(other) => Excess { amount: excess.amount, group: all_buses(network) & !other.group },
+        _ => excess,
+    }
+}
+
+pub fn with_bit(bytes: &[u8], branch: usize) -> [u8; SIZE] {
+    let mut changed: [u8; SIZE] = bytes.try_into().expect("a record");
+    changed[20 + branch / 8] |= 1 << (7 - branch % 8);
+    changed
+}
+
+/// A branch other than this one whose ends no other branch in service joins: its flow is the same in every fitting flow.
+pub fn bridge(network: &Network, branch: usize) -> Option<usize> {
+    (0..network.lines.len()).find(|&k| {
+        let line = &network.lines[k];
+        let island = network.without(k).islands();
+        k != branch && line.served && island[line.first] != island[line.second]
+    })
+}
+
+pub fn empty_reroute(done: &mut Done) -> bool {
+    let flow = done.after.flow.clone();
+    first_record(done, 1, |_, k, _| (flow[k] != 0).then(|| record::bytes(Verdict::Carries, &[])))
+}
+
+pub fn reroute_without_flow(done: &mut Done) -> bool {
+    let flow = done.after.flow.clone();
+    first_record(done, 1, |network, k, bytes| {
+        (flow[k] == 0 && network.lines.len() > 1).then(|| with_bit(bytes, if k == 0 { 1 } else { 0 }))
+    })
+}
+
+pub fn screened_afresh(done: &mut Done) -> bool {
+    accepted_out(done, |network, branch, done| {
+        let count = network.lines.len();
+        let before = &done.before.flow[..count];
+        let named = record::named(record::stretch(&done.before.table, branch), count);
+        let Some(fresh) = cuts::fitting_flow(network) else { return false };
+        let strays = (0..count).any(|k| k != branch && fresh[k] != before[k] && (before[branch] == 0 || !named.contains(&k)));
+        let mut with = network.clone();
+        with.lines[branch].served = true;
+        if !strays || reroutes::confined(&with, before, branch, &named).is_none() {
+            return false;
+        }
+        let mut cutter = Cutter::new(network);
+        let table: Vec<u8> = (0..count).flat_map(|k| screen::own_record(&mut cutter, &fresh, k)).collect();
+        done.after.flow[..count].copy_from_slice(&fresh);
+        done.after.table[..table.len()].copy_from_slice(&table);
+        true
+    })
+}
+
+pub fn kept_record_written(done: &mut Done) -> bool {
+    accepted_out(done, |network, _, done| {
+        let listed = judged_records(network, done);
+        let kept = (0..network.lines.len()).find(|k| !listed.contains(k));
+        kept.map(|k| done.after.table[SIZE * k + 20] ^= 128).is_some()
+    })
+}
+
+/// Whether the reroute of a carrying branch names no touched branch, while the branch's own flow changed.
+pub fn own_flow_only(branch: usize, old: &[u8], touched: &[bool]) -> bool {
+    old[0] == 1 && touched[branch] && record::named(old, touched.len()).into_iter().all(|k| !touched[k])
+}
+
+/// Gives a shortlisted record its old bytes back where these are wrong now.
+pub fn shortlisted_kept(done: &mut Done, wanted: impl Fn(usize, &[u8], &[bool]) -> bool) -> bool {
+    accepted_out(done, |network, branch, done| {
+        let count = network.lines.len();
+        let mut cutter = Cutter::new(network);
+        let touched: Vec<bool> = (0..count).map(|k| k == branch || done.before.flow[k] != done.after.flow[k]).collect();
+        for k in judged_records(network, done).into_iter().filter(|&k| k != branch) {
+            let old = record::stretch(&done.before.table, k).to_vec();
+            if wanted(k, &old, &touched) && screen::record_holds(&mut cutter, &done.after.flow[..count], k, &old).is_err() {
+                done.after.table[SIZE * k..SIZE * (k + 1)].copy_from_slice(&old);
+                return true;
+            }
+        }
+        false
+    })
+}
+
+pub fn refused_before_dump(done: &mut Done, plant: impl FnOnce(&mut Done)) -> bool {
+    let call = matches!(done.command, Command::Screen { .. } | Command::Out { .. });
+    let refused = call && done.lines[0].split(' ').nth(1) != Some("0");
+    if refused && done.next == Some(&Command::Dump) {
+        plant(done);
+        return true;
+    }
+    false
+}

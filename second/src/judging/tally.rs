@@ -1,0 +1,50 @@
+//! How many answers of each kind were compared.
+
+use crate::definitions::network::Network;
+use std::collections::BTreeMap;
+
+#[derive(Default)]
+pub struct Tally(BTreeMap<String, usize>);
+
+impl Tally {
+    pub fn add(&mut self, kind: &str, number: usize) {
+        *self.0.entry(kind.to_string()).or_default() += number;
+    }
+
+    pub fn count(&mut self, kind: &str) {
+        self.add(kind, 1);
+    }
+
+    pub fn of(&self, kind: &str) -> usize {
+        self.0.get(kind).copied().unwrap_or(0)
+    }
+
+    pub fn join(&mut self, other: &Tally) {
+        other.0.iter().for_each(|(kind, &number)| self.add(kind, number));
+    }
+
+    /// Counts an accepted call by what its network is like.
+    pub fn accepted(&mut self, call: &str, network: &Network) {
+        self.count(&format!("{call} accepted"));
+        let mut joined: Vec<(usize, usize)> =
+            network.lines.iter().map(|line| (line.first.min(line.second), line.first.max(line.second))).collect();
+        joined.sort();
+        let kinds = [
+            ("above 64 buses", network.buses() > 64),
+            ("with 128 buses and 256 branches", network.buses() == 128 && joined.len() == 256),
+            ("with islands", network.islands().iter().any(|&island| island != 0)),
+            ("with parallel branches", joined.windows(2).any(|pair| pair[0] == pair[1])),
+            ("with a limit of 0 in service", network.lines.iter().any(|line| line.served && line.limit == 0)),
+            ("with branches out", network.lines.iter().any(|line| !line.served)),
+        ];
+        for (kind, _) in kinds.iter().filter(|(_, holds)| *holds) {
+            self.count(&format!("{call} accepted, {kind}"));
+        }
+    }
+}
+
+impl std::fmt::Display for Tally {
+    fn fmt(&self, out: &mut std::fmt::Formatter) -> std::fmt::Result {
+        self.0.iter().try_for_each(|(kind, number)| writeln!(out, "{number:>9}  {kind}"))
+    }
+}

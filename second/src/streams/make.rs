@@ -1,0 +1,128 @@
+//! Random trial streams with a seed: a few episodes each.
+
+use crate::books::random_books::{counts, served_with_flow, strained};
+use crate::definitions::record;
+use crate::streams::under_way::Stream;
+use crate::streams::{damage, make_tables};
+use crate::trial::stream::{Command, FLOWS, TABLE};
+
+/// The random stream of a seed.
+pub fn stream(seed: u64) -> Vec<u8> {
+    let mut stream = Stream::new(seed);
+    let episodes = 1 + stream.random.below(4);
+    for _ in 0..episodes {
+        if stream.random.once_in(3) {
+            stream.add(Command::Spoil);
+        }
+        match stream.random.below(12) {
+            0 | 1 => run(&mut stream),
+            2 | 3 => run_with_spoilt_table(&mut stream),
+            4 | 5 => make_tables::lent_flow(&mut stream),
+            6 => spoilt_flow(&mut stream),
+            7 => overloaded(&mut stream),
+            8 => damage::damaged(&mut stream),
+            9 => short_room(&mut stream),
+            10 => damage::tables_to_book(&mut stream),
+            _ => damage::registers(&mut stream),
+        }
+        if stream.dumps_left == 0 {
+            break;
+        }
+    }
+    if stream.random.once_in(12) {
+        damage::bad_command(&mut stream);
+    }
+    stream.bytes
+}
+
+/// A good book in the book space; its counts.
+fn good_book(stream: &mut Stream) -> usize {
+    let (buses, count) = counts(&mut stream.random);
+    let (book, _) = served_with_flow(&mut stream.random, buses, count);
+    stream.book(&book);
+    book.branches.len()
+}
+
+/// A screen and a run of outages.
+fn run(stream: &mut Stream) {
+    let count = good_book(stream);
+    stream.screen(count);
+    for _ in 0..1 + stream.random.below(5) {
+        let any = stream.random.below(count + 2);
+        let branch = if stream.random.once_in(6) { any } else { stream.carrying().unwrap_or(any) };
+        stream.out(count, branch);
+        if stream.dumps_left == 0 {
+            return;
+        }
+    }
+}
+
+/// A screen, then outages with the table spoilt between.
+fn run_with_spoilt_table(stream: &mut Stream) {
+    let count = good_book(stream);
+    stream.screen(count);
+    for _ in 0..1 + stream.random.below(4) {
+        let Some(branch) = stream.carrying() else { return };
+        make_tables::spoil(stream, count, branch);
+        stream.out(count, branch);
+        if stream.dumps_left == 0 {
+            return;
+        }
+    }
+}
+
+/// A screen, one flow number changed, outages that are refused.
+fn spoilt_flow(stream: &mut Stream) {
+    let count = good_book(stream);
+    stream.screen(count);
+    if count > 0 {
+        let branch = stream.random.below(count);
+        let value = *stream.random.pick(&[7_777_777, i32::MIN, i32::MAX, 1, -1, 0]);
+        stream.add(Command::Flow(branch, value));
+        for _ in 0..3 {
+            let branch = stream.random.below(count);
+            stream.out(count, branch);
+        }
+    }
+}
+
+/// Books that may be overloaded, and their outages.
+fn overloaded(stream: &mut Stream) {
+    for _ in 0..3 {
+        let (buses, count) = counts(&mut stream.random);
+        let book = strained(&mut stream.random, buses, count);
+        stream.book(&book);
+        stream.screen(book.branches.len());
+        if stream.dumps_left == 0 {
+            return;
+        }
+        for _ in 0..2 {
+            let branch = stream.random.below(book.branches.len() + 1);
+            stream.out(book.branches.len(), branch);
+        }
+    }
+}
+
+/// Lent space too short by little or much, for every call that is lent some.
+fn short_room(stream: &mut Stream) {
+    let count = good_book(stream);
+    let buses = stream.spaces.book[0] as usize;
+    let less = |stream: &mut Stream, room: usize| {
+        if stream.random.once_in(2) {
+            room.saturating_sub(1)
+        } else {
+            stream.random.below(room + 1)
+        }
+    };
+    let flow = less(stream, count);
+    stream.add(Command::Screen { flow, table: TABLE });
+    let table = less(stream, record::SIZE * count);
+    stream.add(Command::Screen { flow: count, table });
+    let branch = stream.random.below(count + 1);
+    stream.add(Command::Out { flow, table: TABLE, branch });
+    stream.add(Command::Out { flow: FLOWS, table, branch });
+    let injections = less(stream, buses);
+    stream.add(Command::Read { injections, branches: 1024 });
+    let branches = less(stream, 4 * count);
+    stream.add(Command::Read { injections: 128, branches });
+}

@@ -1,0 +1,161 @@
+//! What document 01 fixes of a trial's output: everything but `?` where a flow number or a table byte is left open.
+//!
+//! Open after an accepted screen or outage: the flow of every branch in service, and the reroute of every carrying
+//! one. After an outage from a table not known to be true also every byte of a record whose place on the shortlist
+//! may hang on the flow. Where an answer itself hangs on an open flow, the rest is left out.
+
+use crate::definitions::answer::Answer;
+use crate::definitions::cuts;
+use crate::definitions::network::{Line, Network, Verdict};
+use crate::definitions::outage;
+use crate::definitions::record::{self, SIZE};
+use crate::definitions::screen;
+use crate::trial::spaces::{hex, Spaces};
+use crate::trial::stream::{commands, Command, FLOWS, TABLE};
+
+struct Fixed {
+    spaces: Spaces,
+    open_flow: Vec<bool>,
+    open_table: Vec<bool>,
+    /// The flow is known to fit the book, though its numbers may be open.
+    fits: bool,
+    /// The table is known to be true.
+    table_true: bool,
+}
+
+/// The fixed part of the output for a stream.
+pub fn fixed(stream: &[u8]) -> String {
+    let mut fixed = Fixed {
+        spaces: Spaces::default(),
+        open_flow: vec![false; FLOWS],
+        open_table: vec![false; TABLE],
+        fits: false,
+        table_true: false,
+    };
+    let mut text = String::new();
+    for command in commands(stream) {
+        let lines = command.map_or(Some(vec!["bad command".into()]), |command| fixed.step(&command));
+        let Some(lines) = lines else {
+            return text + "? the rest hangs on a choice of the flow\n";
+        };
+        lines.iter().for_each(|line| text += &format!("{line}\n"));
+    }
+    text
+}
+
+impl Fixed {
+    fn step(&mut self, command: &Command) -> Option<Vec<String>> {
+        match command {
+            Command::Screen { flow, table } => Some(vec![format!("screen {}", self.screen(*flow, *table))]),
+            Command::Out { flow, table, branch } => Some(vec![format!("out {}", self.out(*flow, *table, *branch)?)]),
+            Command::Dump => Some(self.dump()),
+            other => Some(self.plain(other)),
+        }
+    }
+
+    fn plain(&mut self, command: &Command) -> Vec<String> {
+        match command {
+            Command::Flow(k, _) => self.open_flow[*k] = false,
+            Command::Table(k, _) => self.open_table[*k] = false,
+            Command::Spoil => {
+                self.open_flow.fill(false);
+                self.open_table.fill(false);
+            }
+            _ => {}
+        }
+        let (_, lines) = self.spaces.run(command);
+        let keeps_book = matches!(
+            command,
+            Command::Table(..) | Command::Injection(..) | Command::Number(..) | Command::Read { .. } | Command::Meters { .. }
+        );
+        self.fits &= keeps_book;
+        self.table_true &= keeps_book && !matches!(command, Command::Table(..));
+        lines
+    }
+
+    /// Sets the record of a branch as the book fixes it, its reroute open where it carries.
+    fn set_record(&mut self, branch: usize, verdict: Verdict, count: usize) {
+        let start = SIZE * branch;
+        self.spaces.table[start..start + SIZE].copy_from_slice(&record::bytes(verdict, &[]));
+        self.open_table[start..start + SIZE].fill(false);
+        if verdict == Verdict::Carries {
+            self.open_table[start + 20..start + 20 + count.div_ceil(8)].fill(true);
+        }
+    }
+
+    fn screen(&mut self, flow: usize, table: usize) -> Answer {
+        let network = match screen::screened(self.spaces.bytes(), flow, table) {
+            Ok(network) => network,
+            Err(answer) => return answer,
+        };
+        self.open_flows(&network);
+        for (branch, verdict) in screen::verdicts(&network).into_iter().enumerate() {
+            self.set_record(branch, verdict, network.lines.len());
+        }
+        (self.fits, self.table_true) = (true, true);
+        Answer::ACCEPTED
+    }
+
+    fn open_flows(&mut self, network: &Network) {
+        for (branch, line) in network.lines.iter().enumerate() {
+            self.open_flow[branch] = line.served;
+            self.spaces.flow[branch] = 0;
+        }
+    }
+
+    /// A number outside its limit makes a flow unfit, whatever the open ones are.
+    fn surely_unfit(&self, network: &Network) -> bool {
+        let wrong = |(k, line): (usize, &Line)| {
+            let most = if line.served { line.limit } else { 0 };
+            !self.open_flow[k] && self.spaces.flow[k].abs() > most
+        };
+        network.lines.iter().enumerate().any(wrong)
+    }
+
+    fn out(&mut self, flow: usize, table: usize, branch: usize) -> Option<Answer> {
+        let book = match screen::opened(self.spaces.bytes(), flow, table) {
+            Ok(book) => book,
+            Err(answer) => return Some(answer),
+        };
+        let network = Network::of(&book);
+        let known = network.lines.get(branch).is_none_or(|line| !line.served);
+        let open = (0..network.lines.len()).any(|k| self.open_flow[k]);
+        if known || !open {
+            let lent = self.spaces.lent(flow, table);
+            return Some(outage::allowed(&lent, branch).err().unwrap_or_else(|| self.taken_out(&network, branch)));
+        }
+        if !self.fits {
+            return self.surely_unfit(&network).then(|| Answer::refused(11));
+        }
+        let excess = cuts::base_excess(&network.without(branch));
+        Some(if excess.amount > 0 { Answer::overloaded(excess) } else { self.taken_out(&network, branch) })
+    }
+
+    fn taken_out(&mut self, network: &Network, branch: usize) -> Answer {
+        let count = network.lines.len();
+        let changed = network.without(branch);
+        let book = outage::changed_book(self.spaces.bytes(), branch);
+        self.spaces.book[..book.len()].copy_from_slice(&book);
+        if self.open_flow[branch] || self.spaces.flow[branch] != 0 {
+            self.open_flows(&changed);
+        }
+        for (k, verdict) in screen::verdicts(&changed).into_iter().enumerate() {
+            let listed = !changed.lines[k].served || !self.open_table[SIZE * k] && self.spaces.table[SIZE * k] != 1;
+            if listed || self.table_true {
+                self.set_record(k, verdict, count);
+            } else {
+                self.open_table[SIZE * k..SIZE * (k + 1)].fill(true);
+            }
+        }
+        self.fits = true;
+        Answer::ACCEPTED
+    }
+
+    fn dump(&self) -> Vec<String> {
+        let number = |k: usize| if self.open_flow[k] { " ?".into() } else { format!(" {}", self.spaces.flow[k]) };
+        let flow: String = (0..FLOWS).map(number).collect();
+        let byte = |k: usize| if self.open_table[k] { "??".into() } else { hex(&self.spaces.table[k..k + 1]) };
+        let records = (0..FLOWS).map(|k| format!("record {k} {}", (SIZE * k..SIZE * (k + 1)).map(byte).collect::<String>()));
+        [self.spaces.book_line(), format!("flow{flow}")].into_iter().chain(records).collect()
+    }
+}

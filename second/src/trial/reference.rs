@@ -1,0 +1,78 @@
+//! A whole trial output with our own choice of flows and reroutes: what another program may print otherwise.
+
+use crate::definitions::answer::Answer;
+use crate::definitions::cuts::{self, Cutter};
+use crate::definitions::outage;
+use crate::definitions::screen;
+use crate::trial::spaces::Spaces;
+use crate::trial::stream::{commands, Command};
+
+/// One command done: what was before and after it, the lines it printed, and the command that follows.
+pub struct Done<'a> {
+    pub command: &'a Command,
+    pub next: Option<&'a Command>,
+    pub before: &'a Spaces,
+    pub after: &'a mut Spaces,
+    pub lines: &'a mut Vec<String>,
+}
+
+/// The output for a stream.
+pub fn output(stream: &[u8]) -> String {
+    output_with(stream, &mut |_| {})
+}
+
+/// The output for a stream, where `meddle` may change what each command leaves and prints.
+pub fn output_with(stream: &[u8], meddle: &mut dyn FnMut(Done)) -> String {
+    let mut spaces = Spaces::default();
+    let mut printed = Vec::new();
+    let commands: Vec<_> = commands(stream).collect();
+    for (place, command) in commands.iter().enumerate() {
+        let Ok(command) = command else {
+            printed.push("bad command".to_string());
+            continue;
+        };
+        let before = spaces.clone();
+        let mut lines = step(&mut spaces, command);
+        let next = commands.get(place + 1).and_then(|next| next.as_ref().ok());
+        meddle(Done { command, next, before: &before, after: &mut spaces, lines: &mut lines });
+        printed.extend(lines);
+    }
+    printed.iter().map(|line| format!("{line}\n")).collect()
+}
+
+/// Does one command with our own choices and answers its lines.
+pub fn step(spaces: &mut Spaces, command: &Command) -> Vec<String> {
+    match command {
+        Command::Screen { flow, table } => vec![format!("screen {}", screen_once(spaces, *flow, *table))],
+        Command::Out { flow, table, branch } => vec![format!("out {}", take_out(spaces, *flow, *table, *branch))],
+        Command::Dump => spaces.dump(),
+        other => spaces.run(other).1,
+    }
+}
+
+fn screen_once(spaces: &mut Spaces, flow: usize, table: usize) -> Answer {
+    let network = match screen::screened(spaces.bytes(), flow, table) {
+        Ok(network) => network,
+        Err(answer) => return answer,
+    };
+    let found = cuts::fitting_flow(&network).expect("the base excess is 0");
+    let mut cutter = Cutter::new(&network);
+    let records: Vec<u8> = (0..found.len()).flat_map(|branch| screen::own_record(&mut cutter, &found, branch)).collect();
+    spaces.flow[..found.len()].copy_from_slice(&found);
+    spaces.table[..records.len()].copy_from_slice(&records);
+    Answer::ACCEPTED
+}
+
+fn take_out(spaces: &mut Spaces, flow: usize, table: usize, branch: usize) -> Answer {
+    let lent = spaces.lent(flow, table);
+    let network = match outage::allowed(&lent, branch) {
+        Ok(network) => network,
+        Err(answer) => return answer,
+    };
+    let (after, records) = outage::own_result(&network, &lent, branch);
+    let book = outage::changed_book(lent.book, branch);
+    spaces.book[..book.len()].copy_from_slice(&book);
+    spaces.flow[..after.len()].copy_from_slice(&after);
+    spaces.table[..records.len()].copy_from_slice(&records);
+    Answer::ACCEPTED
+}
