@@ -6,5 +6,6 @@ pub mod Calls
 pub mod Demand3
 pub mod AsShown
 pub mod UniqueCalls
+pub mod UniqueCallable
 pub mod Excluded
 pub mod RoundTrips

@@ -40,8 +40,12 @@ outcome-is o r e a = ap (λ (x : Answer). x .outcome) (sym e ∙ a)
 
 -- ---- what was written is read
 
-pub record ReadBack (n m : ℕ) (inj old new : List ℤ) (bra old′ new′ : List ℕ) (r : Answer) : Type 0 where
+-- What was packed into bs: the counts and the power factor stand in its header, and the reader leaves the tables.
+pub record ReadBack (bs : List ℕ) (n m factor : ℕ) (inj old new : List ℤ) (bra old′ new′ : List ℕ) (r : Answer) : Type 0 where
   pub taken : r ≡ accepted
+  pub buses-are : busesIn bs ≡ n
+  pub count-is : branchesIn bs ≡ m
+  pub factor-is : factorIn bs ≡ factor
   pub injections : new ≡ take n inj ++ drop n old
   pub branches : new′ ≡ take (4 * m) bra ++ drop (4 * m) old′
 
@@ -60,28 +64,35 @@ module _ (n m factor : ℕ) (inj : List ℤ) (bra : List ℕ) (room : ℕ) (w : 
   unfolding bookFrom
   made-branches = ap (λ (x : Book). tableOf (x .branches)) (book-encode made well) ∙ table-of-rows bra m (w .branches-long)
 
-  read-made : (old new : List ℤ) (old′ new′ : List ℕ) (r : Answer) → n ≤ length old → 4 * m ≤ length old′ → BookRead (encode made) old new old′ new′ r → ReadBack n m inj old new bra old′ new′ r
+  made-factor : factorIn (encode made) ≡ factor
+  unfolding bookFrom bookOf
+  made-factor = ap (λ (x : Book). x .factor) (book-encode made well)
+
+  read-made : (old new : List ℤ) (old′ new′ : List ℕ) (r : Answer) → n ≤ length old → 4 * m ≤ length old′ → BookRead (encode made) old new old′ new′ r → ReadBack (encode made) n m factor inj old new bra old′ new′ r
   read-made old new old′ new′ r u v d =
       let p : busesIn (encode made) ≡ n = buses-encode made well ∙ buses-from n m factor inj bra in
       let q : branchesIn (encode made) ≡ m = count-encode made well ∙ count-from n m factor inj bra in
       let s = readable (encode made) (length old) (length old′) (valid-accepted (encode made) (valid-encode made well)) (omega arith) (omega arith) in
       record {
         taken = read-answer d ∙ ap bare s;
+        buses-are = p;
+        count-is = q;
+        factor-is = made-factor;
         injections = (rw s at (d .injections-left)) ∙ rw (made-injections, p) refl;
         branches = (rw s at (d .branches-left)) ∙ rw (made-branches, q) refl;
       }
 
--- The writer's output, read into tables that are long enough, gives the writer's tables back.
+-- The writer's output, read into tables that are long enough, gives the writer's counts, power factor and tables back.
 pub write-read : (n m factor : ℕ) (inj : List ℤ) (bra out out′ : List ℕ) (r : Answer) (old new : List ℤ) (old′ new′ : List ℕ) (r′ : Answer)
     → BookWritten n m factor inj bra out out′ r → r ≡ accepted → n ≤ length old → 4 * m ≤ length old′
-    → BookRead (take (bytesFor n m) out′) old new old′ new′ r′ → ReadBack n m inj old new bra old′ new′ r′
+    → BookRead (take (bytesFor n m) out′) old new old′ new′ r′ → ReadBack (take (bytesFor n m) out′) n m factor inj old new bra old′ new′ r′
 write-read n m factor inj bra out out′ r old new old′ new′ r′ w a u v d =
     let s = outcome-is _ r (write-answer n m factor inj bra w) a in
     let g = write-accepted n m factor inj bra (length out) s in
     let e : out′ ≡ encode (bookFrom n m factor inj bra) ++ drop (bytesFor n m) out = rw s at (w .left) in
     let t : take (bytesFor n m) out′ ≡ encode (bookFrom n m factor inj bra) =
     rw e (take-at (encode (bookFrom n m factor inj bra)) (drop (bytesFor n m) out) (bytesFor n m) (long-encode n m factor inj bra (length out) g)) in
-    read-made n m factor inj bra (length out) g old new old′ new′ r′ u v (rw t at d)
+    rw t (read-made n m factor inj bra (length out) g old new old′ new′ r′ u v (rw t at d))
 
 -- ---- what was read is written
 

@@ -1,63 +1,70 @@
--- Any two results that the promise of `screen` allows have the same answer and leave the same lent memory, but for the flow numbers below the count
--- and bytes 20 to 51 of the records of carrying branches.
+-- Any two results that the promise of `screen` allows have the same answer and leave the same lent memory, but for the flow numbers of branches in service
+-- and, in the records of carrying branches that have a flow, the reroute bits of other branches in service.
 use mathlib.Core.Path.{_≡_, refl, sym, ap, _∙_, subst}
+use mathlib.Core.Bool.{Bool, true, false}
 use mathlib.Core.List.{List}
-use Prim.Native.Nat.{ℕ, _+_, _*_, _/_, _%_, _≤_, _<_}
+use Prim.Native.Nat.{ℕ, _<_}
 use native.Mathlib.Omega.{arith}
-use native.Mathlib.Decide.{ℕ-discrete, decLt}
 use lib.IntN.{ℤ}
-use lib.ListN.{drop}
-use lib.Seq.{getD-take, getD-drop}
 use Rattle.rows.specs.Row.{nth}
 use Rattle.rows.specs.Bit.{has}
+use Rattle.rows.proofs.Sum.{side, below, equal, above}
 use Rattle.answer.specs.Answer.{Said, accepted}
 use Rattle.answer.specs.declared.Answer.{Answer}
 use Rattle.verdict.specs.Case.{Case, Posed, on, Fits}
-use Rattle.verdict.specs.Record.{recordAt, verdictIn, TrueTable}
+use Rattle.verdict.specs.Record.{recordAt, names, TrueRecord}
 use Rattle.verdict.specs.Update.{Lent, Beyond}
 use Rattle.verdict.proofs.Fitting.{fits-none}
 use Rattle.verdict.proofs.Loss.{never-overload}
-use Rattle.verdict.proofs.VerdictByCase.{same-names, largest-unique, first-twenty, whole-record}
+use Rattle.verdict.proofs.VerdictByCase.{same-names, same-record, largest-unique, first-twenty}
+use Rattle.verdict.proofs.Named.{names-only}
 use Rattle.state.specs.Case.{caseIn}
 use Rattle.state.specs.Call.{OverloadSaid}
 use Rattle.state.proofs.Checked.{passed, posed-book}
 use Rattle.screen.specs.Promise.{ScreenEnds, refuses, overloads, accepts}
-use Rattle.demands.specs.Same.{Free, Alike, SameResult}
+use Rattle.demands.specs.Same.{FreeFlow, FreeBit, Alike, SameResult}
 use Rattle.answer.proofs.Said.{said-same}
 use Rattle.demands.proofs.Ends.{is-accepted}
 
--- ---- Tables.
-pub byte-of : (table : List ℕ) (k m : ℕ) → m < 52 → nth (recordAt table k) m ≡ nth table (52 * k + m)
-byte-of table k m l = getD-take 52 (drop (52 * k) table) m 0 l ∙ getD-drop (52 * k) table m 0
+-- ---- Records.
+module _ (C : Case) (written : ℕ → Type 0) (one two : Lent) (k : ℕ) where
+  pub equal-alike : recordAt (one .table) k ≡ recordAt (two .table) k → Alike (FreeBit C written one two k) (recordAt (one .table) k) (recordAt (two .table) k)
+  equal-alike e = record { front = λ m l. ap (λ (x : List ℕ). nth x m) e; reroute = λ j n. ap (λ (x : List ℕ). names x j) e; whole = λ n. e }
 
--- Tables whose records are so are the same but for the free bytes.
-pub tables-same : (C : Case) (t u : List ℕ) → ((k : ℕ) → k < C .branches → Alike (recordAt t k) (recordAt u k)) → ((j : ℕ) → 52 * C .branches ≤ j → nth t j ≡ nth u j)
-    → (j : ℕ) → (Free C t j → ⊥) → nth t j ≡ nth u j
-tables-same C t u each beyond j n = go (decLt j (52 * C .branches))
-  where
-    is : j ≡ 52 * (j / 52) + j % 52
-    is = omega arith
+  -- Two true records, one of them written anew.
+  pub true-alike : Fits C (C .limit) (on (one .flow)) → Fits C (C .limit) (on (two .flow)) → written k
+      → TrueRecord C (on (one .flow)) k (recordAt (one .table) k) → TrueRecord C (on (two .flow)) k (recordAt (two .table) k)
+      → Alike (FreeBit C written one two k) (recordAt (one .table) k) (recordAt (two .table) k)
+  true-alike fr fs w p q = record {
+    front = shown;
+    reroute = λ j n. bit j n (names r j) (names s j) refl refl;
+    whole = λ n. same-record r s (p .long) (q .long) (p .bytes) (q .bytes) shown (λ j. bit j (n j) (names r j) (names s j) refl refl);
+  }
+    where
+      r : List ℕ
+      r = recordAt (one .table) k
 
-    at : nth (recordAt t (j / 52)) (j % 52) ≡ nth (recordAt u (j / 52)) (j % 52) → nth t j ≡ nth u j
-    at e = ap (nth t) is ∙ sym (byte-of t (j / 52) (j % 52) (omega arith)) ∙ e ∙ byte-of u (j / 52) (j % 52) (omega arith) ∙ ap (nth u) (sym is)
+      s : List ℕ
+      s = recordAt (two .table) k
 
-    late : j / 52 < C .branches → 20 ≤ j % 52 → Alike (recordAt t (j / 52)) (recordAt u (j / 52)) → Dec (verdictIn (recordAt t (j / 52)) ≡ 1) → nth t j ≡ nth u j
-    late l h a (yes v) = absurd (n (record { branch = j / 52; place = j % 52; there = l; is-there = is; from-20 = h; to-51 = omega arith; shown-carrying = v }))
-    late l h a (no v) = at (ap (λ (x : List ℕ). nth x (j % 52)) (a .whole v))
+      shown : (m : ℕ) → m < 20 → nth (recordAt (one .table) k) m ≡ nth (recordAt (two .table) k) m
+      shown = first-twenty C _ _ k _ _ p q
 
-    inside : j / 52 < C .branches → Alike (recordAt t (j / 52)) (recordAt u (j / 52)) → Dec (j % 52 < 20) → nth t j ≡ nth u j
-    inside l a (yes h) = at (a .front (j % 52) h)
-    inside l a (no h) = late l (omega arith) a (ℕ-discrete (verdictIn (recordAt t (j / 52))) 1)
+      bit : (j : ℕ) → (FreeBit C written one two k j → ⊥) → (t u : Bool) → names (recordAt (one .table) k) j ≡ t → names (recordAt (two .table) k) j ≡ u
+          → names (recordAt (one .table) k) j ≡ names (recordAt (two .table) k) j
+      bit j n true true e h = e ∙ sym h
+      bit j n false false e h = e ∙ sym h
+      bit j n true false e h =
+          let m = names-only C _ k _ fr (p .told) j e in
+          absurd (n (record { anew = w; carrying = m .carrying; flowing = λ z. m .flowing (z .0); another = m .another; there = m .there; in-service = m .in-service }))
+      bit j n false true e h =
+          let m = names-only C _ k _ fs (q .told) j h in
+          absurd (n (record { anew = w; carrying = shown 0 (omega arith) ∙ m .carrying; flowing = λ z. m .flowing (z .1); another = m .another; there = m .there; in-service = m .in-service }))
 
-    go : Dec (j < 52 * C .branches) → nth t j ≡ nth u j
-    go (yes l) = let l′ : j / 52 < C .branches = omega arith in inside l′ (each (j / 52) l′) (decLt (j % 52) 20)
-    go (no l) = beyond j (omega arith)
-
-pub true-alike : (C : Case) (f g : List ℤ) (t u : List ℕ) → TrueTable C f t → TrueTable C g u → (k : ℕ) → k < C .branches → Alike (recordAt t k) (recordAt u k)
-true-alike C f g t u a b k l = record {
-  front = first-twenty C _ _ k (recordAt t k) (recordAt u k) (a .each k l) (b .each k l);
-  whole = whole-record C _ _ k (recordAt t k) (recordAt u k) (a .each k l) (b .each k l);
-}
+-- ---- Flows: on a branch out of service two fitting ones are both 0.
+pub still-same : (C : Case) (f g : ℕ → ℤ) → Fits C (C .limit) f → Fits C (C .limit) g → (j : ℕ) → j < C .branches → (s : Bool) → C .served j ≡ s → (C .served j ≡ true → f j ≡ g j) → f j ≡ g j
+still-same C f g a b j l true e h = h e
+still-same C f g a b j l false e h = a .still j l e ∙ sym (b .still j l e)
 
 -- ---- Answers.
 pub overloaded-same : (C : Case) (r s : Answer) → OverloadSaid C r → OverloadSaid C s → r ≡ s
@@ -82,29 +89,52 @@ beyond-same C x y = record {
 pub beyond-none : (C : Case) {one two : Lent} → one ≡ two → Beyond C two one
 beyond-none C e = rw e (record { flow-long = refl; flow-rest = λ k l. refl; table-long = refl; table-rest = λ j l. refl })
 
-module _ (C : Case) {before one two : Lent} {r s : Answer} where
-  pub kept-same : r ≡ s → one ≡ before → two ≡ before → SameResult C one two r s
-  kept-same e a b =
-      let ab : one ≡ two = a ∙ sym b in
-      record { answers = e; books = ap (λ (l : Lent). l .book) ab; beyond = beyond-none C ab; table-bytes = λ j h. ap (λ (l : Lent). nth (l .table) j) ab; refused-same = λ h. ab }
+-- Nothing was changed: nothing is open.
+pub kept-same : (C : Case) (free written agreed : ℕ → Type 0) {before one two : Lent} {r s : Answer} → r ≡ s → one ≡ before → two ≡ before → SameResult C free written agreed one two r s
+kept-same C free written agreed {before} {one} {two} e a b =
+    let ab : one ≡ two = a ∙ sym b in
+    record {
+      answers = e;
+      books = ap (λ (l : Lent). l .book) ab;
+      flows = λ j n. ap (λ (l : Lent). on (l .flow) j) ab;
+      beyond = beyond-none C ab;
+      records = λ k l w. equal-alike C written one two k (ap (λ (m : Lent). recordAt (m .table) k) ab);
+      refused-same = λ h. ab;
+    }
 
-  pub left-same : r ≡ s → r ≡ accepted → one .book ≡ two .book → Beyond C before one → Beyond C before two
-      → ((k : ℕ) → k < C .branches → Alike (recordAt (one .table) k) (recordAt (two .table) k)) → SameResult C one two r s
-  left-same e a b x y each =
-      let z = beyond-same C x y in
-      record { answers = e; books = b; beyond = z; table-bytes = tables-same C (one .table) (two .table) each (z .table-rest); refused-same = λ h. absurd (h a) }
+-- A flow number beyond the count is the same, and one below it where it is so.
+pub flows-below : (C : Case) (free : ℕ → Type 0) {one two : Lent} → Beyond C two one → ((j : ℕ) → j < C .branches → (free j → ⊥) → on (one .flow) j ≡ on (two .flow) j)
+    → (j : ℕ) → (free j → ⊥) → on (one .flow) j ≡ on (two .flow) j
+flows-below C free x h j n = elim (side j (C .branches)) [
+  | below l ↦ h j l n
+  | equal l ↦ x .flow-rest j (omega arith)
+  | above l ↦ x .flow-rest j (omega arith)
+]
 
--- ---- Screens.
+-- ---- Screens: every record is written, so the two agree on each.
+abbrev pub Each : ℕ → Type 0
+Each k = Unit
+
 module _ {before one two : Lent} {r s : Answer} where
-  pub screens-same : ScreenEnds before one r → ScreenEnds before two s → SameResult (caseIn (before .book)) one two r s
-  screens-same (refuses n a k) (refuses n′ a′ k′) = kept-same _ (said-same a a′) k k′
+  pub screens-same : ScreenEnds before one r → ScreenEnds before two s → SameResult (caseIn (before .book)) (FreeFlow (caseIn (before .book))) Each Each one two r s
+  screens-same (refuses n a k) (refuses n′ a′ k′) = kept-same _ _ _ _ (said-same a a′) k k′
   screens-same (refuses n a k) (overloads c o k′) = absurd (n c)
   screens-same (refuses n a k) (accepts c a′ x) = absurd (n c)
   screens-same (overloads c o k) (refuses n a k′) = absurd (n c)
-  screens-same (overloads c o k) (overloads c′ o′ k′) = kept-same _ (overloaded-same _ r s o o′) k k′
+  screens-same (overloads c o k) (overloads c′ o′ k′) = kept-same _ _ _ _ (overloaded-same _ r s o o′) k k′
   screens-same (overloads c o k) (accepts c′ a x) = absurd (fits-not-over _ (on (two .flow)) r (posed-book (before .book) (passed _ _ _ c .book)) (x .table-true .fits) o)
   screens-same (accepts c a x) (refuses n a′ k) = absurd (n c)
   screens-same (accepts c a x) (overloads c′ o k) = absurd (fits-not-over _ (on (one .flow)) s (posed-book (before .book) (passed _ _ _ c .book)) (x .table-true .fits) o)
   screens-same (accepts c a x) (accepts c′ a′ y) =
-      left-same _ (said-same a a′) (is-accepted a) (x .book-kept ∙ sym (y .book-kept)) (x .beyond) (y .beyond)
-      (true-alike _ (one .flow) (two .flow) (one .table) (two .table) (x .table-true) (y .table-true))
+      let C = caseIn (before .book) in
+      let z = beyond-same C (x .beyond) (y .beyond) in
+      let f = x .table-true .fits in
+      let g = y .table-true .fits in
+      record {
+        answers = said-same a a′;
+        books = x .book-kept ∙ sym (y .book-kept);
+        flows = flows-below C (FreeFlow C) z (λ j l n. still-same C _ _ f g j l (C .served j) refl (λ i. absurd (n (record { there = l; in-service = i }))));
+        beyond = z;
+        records = λ k l w. true-alike C Each one two k f g tt (x .table-true .each k l) (y .table-true .each k l);
+        refused-same = λ h. absurd (h (is-accepted a));
+      }

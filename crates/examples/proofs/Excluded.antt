@@ -1,7 +1,7 @@
 -- Wrong programs that the promises rule out on a concrete book, whatever they answer.
 use mathlib.Core.Path.{_≡_, refl, sym, ap, _∙_, subst}
 use mathlib.Core.Bool.{true, false, true≢false}
-use mathlib.Core.List.{List, [], _∷_, List·Memᴰ, List·Memᴰ·head, List·Memᴰ·tail}
+use mathlib.Core.List.{List, [], _∷_}
 use Prim.Native.Nat.{ℕ, zero, suc, _≤_, _<_}
 use native.Mathlib.Omega.{arith}
 use lib.IntN.{ℤ, pos, natAbs, _-ℤ_}
@@ -37,15 +37,10 @@ use Rattle.demands.proofs.Demand3.{run-true, run-posed}
 use Rattle.examples.specs.Row.{out, carries, short, sightBytes, Row, shows, Shows, Takes}
 use Rattle.examples.specs.Table.{minus, joins, triangle, second, markedRows}
 use Rattle.examples.proofs.Tests.{wellTest, well-sound}
-use Rattle.examples.proofs.Marked.{marked-examples}
+use Rattle.examples.proofs.Marked.{row-in, marked-examples}
 
 abbrev T : Book
 T = triangle 1000 30 1 1
-
-row-in : (xs : List Row) (k : ℕ) → k < length xs → List·Memᴰ (getD xs k (shows T [])) xs
-row-in [] k u = absurd (omega arith)
-row-in (x ∷ xs) zero u = List·Memᴰ·head refl
-row-in (x ∷ xs) (suc k) u = List·Memᴰ·tail (row-in xs k (omega arith))
 
 -- Byte 0 from the first twenty.
 first-byte : (rec bytes : List ℕ) → take 20 rec ≡ bytes → verdictIn rec ≡ nth bytes 0
@@ -82,7 +77,7 @@ module _ {flow : List ℤ} {table : List ℕ} {after : Lent} {r : Answer} where
   unfolding sightBytes recordBytes
   table-left run e same =
       let w = well-sound T well-T in
-      let t : Takes T 0 (out ∷ short 30 (0 ∷ []) ∷ short 10 (0 ∷ 2 ∷ []) ∷ []) (lent (encode T) flow table) after r =
+      let t : Takes T (triangle 1000 30 0 1) (out ∷ short 30 (0 ∷ []) ∷ short 10 (0 ∷ 2 ∷ []) ∷ []) (lent (encode T) flow table) after r =
       marked-examples _ (row-in markedRows 2 (omega arith)) flow table after r run e in
       let anew : verdictIn (recordAt (after .table) 0) ≡ 0 = first-byte (recordAt (after .table) 0) _ (t .records 0 (omega arith)) in
       let zero-byte : verdictIn (recordAt table 0) ≡ 0 = ap (λ (x : List ℕ). verdictIn (recordAt x 0)) (sym same) ∙ anew in

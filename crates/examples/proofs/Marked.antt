@@ -1,8 +1,9 @@
 -- The table of marked examples under one theorem: a computed test of every row, over all groups of its book, with one soundness law.
-use mathlib.Core.Path.{_≡_, refl, sym, _∙_, subst}
+use mathlib.Core.Path.{_≡_, refl, sym, ap, _∙_, subst}
 use mathlib.Core.Bool.{Bool, true, false}
 use mathlib.Core.List.{List, [], _∷_, List·Memᴰ, List·Memᴰ·head, List·Memᴰ·tail}
-use Prim.Native.Nat.{ℕ, _*_, _≤_, _<_}
+use Prim.Native.Nat.{ℕ, zero, suc, _*_, _≤_, _<_}
+use native.Mathlib.Omega.{arith}
 use borrow.Author.Tests.{eqb-true, ltb-true}
 use lib.Dec.{eqb, ltb}
 use lib.IntN.{ℤ}
@@ -15,12 +16,14 @@ use Rattle.answer.specs.declared.Outcome.the-variants.{Accepted}
 use Rattle.answer.specs.declared.Answer.{Answer}
 use Rattle.rows.proofs.Row.{every-at}
 use Rattle.answer.proofs.Said.{said-overloaded}
-use Rattle.bits.specs.Field.{withBit, setBit}
+use Rattle.bits.specs.Field.{withBit, setBit, put}
+use Rattle.bits.specs.Fields.{putItems}
 use Rattle.grid.proofs.Tests.{_&_, _⇒_, and-left, and-right, everyGroup}
 use Rattle.grid.proofs.Trial.{mostTest, smallestTest}
+use Rattle.layout.specs.Book as its
 use Rattle.layout.specs.Book.{Book, count, WellFormed}
 use Rattle.layout.specs.Fault.{branchFault}
-use Rattle.layout.specs.Layout.{statusBit, encode}
+use Rattle.layout.specs.Layout.{statusBit, packed, encode}
 use Rattle.layout.proofs.AcceptedWhere.{valid-accepted}
 use Rattle.layout.proofs.DecodeEncode.{buses-encode, count-encode, valid-encode, book-encode}
 use Rattle.verdict.specs.Case.{Case, Posed, out, on}
@@ -36,14 +39,15 @@ use Rattle.state.proofs.Checked.{passing}
 use Rattle.screen.specs.Promise.{screenCheck, Screened, ScreenEnds, refuses, overloads, accepts}
 use Rattle.outage.specs.Promise.{takeCheck, TakenOut, TakeEnds}
 use Rattle.meters.specs.Registers.{buses, injection, tooFar, answerTo}
-use Rattle.demands.specs.Run.{Run}
+use Rattle.demands.specs.Run.{Run, taken}
+use Rattle.demands.proofs.Ends.{is-accepted}
 use Rattle.demands.proofs.Calls.{call-true}
 use Rattle.demands.proofs.Demand3.{run-true, run-posed, run-fits, call-checked}
 use Rattle.demands.proofs.Unique.{overloaded-same, fits-not-over}
 use Rattle.examples.specs.Row as row
 use Rattle.examples.specs.Row.{Sight, groupBytes, sightBytes, Row, shows, takes, keeps, meters, Shows, Refuses, Takes, Holds}
-use Rattle.examples.specs.Table.{markedRows}
-use Rattle.examples.proofs.Tests.{wellTest, well-sound, sameNumbers, same-sound, long-group, bytes-group, insideTest, overloadTest, overload-sound, noExcessTest, no-excess-sound, sightTest, sight-sound}
+use Rattle.examples.specs.Table.{triangle, markedRows}
+use Rattle.examples.proofs.Tests.{wellTest, well-sound, sameRows, sameNumbers, same-sound, sameBytes, bytes-sound, long-group, bytes-group, insideTest, overloadTest, overload-sound, noExcessTest, no-excess-sound, sightTest, sight-sound}
 
 unfoldable pub rowTest : Row → Bool
 rowTest (shows b sights) =
@@ -52,13 +56,14 @@ rowTest (shows b sights) =
     & (eqb (length sights) (count b)
     & every (count b) (λ k. sightTest (caseOf b) k (getD sights k row.out))))
 rowTest (row.refuses b v group) = wellTest b & overloadTest (caseOf b) v group
-rowTest (takes b k sights) =
+rowTest (takes b k d sights) =
     wellTest b
+    & (sameBytes (setBit (encode b) (statusBit (its.buses b) k) 0) (encode d)
     & (ltb k (count b)
     & (caseOf b .served k
     & (noExcessTest (out (caseOf b) k)
     & (eqb (length sights) (count b)
-    & every (count b) (λ j. sightTest (out (caseOf b) k) j (getD sights j row.out))))))
+    & every (count b) (λ j. sightTest (out (caseOf b) k) j (getD sights j row.out)))))))
 rowTest (keeps b k v group) = wellTest b & (ltb k (count b) & (caseOf b .served k & overloadTest (out (caseOf b) k) v group))
 rowTest (meters R space number output) =
     eqb (numberOf (answerTo R (length space))) number
@@ -139,11 +144,11 @@ module _ (b : Book) (w : WellFormed b) (k : ℕ) (there : k < count b) (in-servi
   true-less : TakenOut k (lent (encode b) flow table) after → TrueTable (out (caseOf b) k) (after .flow) (after .table)
   true-less o = subst (λ (x : Book). TrueTable (out (caseOf x) k) (after .flow) (after .table)) (book-encode b w) (call-true (run-posed run) o (run-true run))
 
-  takes-all : (sights : List Sight) → noExcessTest (out (caseOf b) k) ≡ true → eqb (length sights) (count b) ≡ true
-      → every (count b) (λ j. sightTest (out (caseOf b) k) j (getD sights j row.out)) ≡ true → Takes b k sights (lent (encode b) flow table) after r
-  takes-all sights n l t = go e
+  takes-all : (d : Book) (sights : List Sight) → setBit (encode b) (statusBit (its.buses b) k) 0 ≡ encode d → noExcessTest (out (caseOf b) k) ≡ true → eqb (length sights) (count b) ≡ true
+      → every (count b) (λ j. sightTest (out (caseOf b) k) j (getD sights j row.out)) ≡ true → Takes b d sights (lent (encode b) flow table) after r
+  takes-all d sights left n l t = go e
     where
-      go : TakeEnds k (lent (encode b) flow table) after r → Takes b k sights (lent (encode b) flow table) after r
+      go : TakeEnds k (lent (encode b) flow table) after r → Takes b d sights (lent (encode b) flow table) after r
       go (call.refuses m a h) = absurd (m checked)
       go (call.unfit c m a h) = absurd (m (run-fits run))
       go (call.overloads c f o h) =
@@ -151,7 +156,7 @@ module _ (b : Book) (w : WellFormed b) (k : ℕ) (there : k < count b) (in-servi
           absurd (never-overload (out (caseOf b) k) (o′ .shortage) (has (o′ .group)) (no-excess-sound (out (caseOf b) k) posed-less n) (o′ .overload))
       go (call.accepts c f a o) = record {
         answer = a;
-        book-is = subst (λ (m : ℕ). after .book ≡ setBit (encode b) (statusBit m k) 0) (buses-encode b w) (o .book-is);
+        book-is = subst (λ (m : ℕ). after .book ≡ setBit (encode b) (statusBit m k) 0) (buses-encode b w) (o .book-is) ∙ left;
         one-each = eqb-true _ _ l;
         records = λ j u. record-shows (out (caseOf b) k) (after .flow) (after .table) j (getD sights j row.out) posed-less (true-less o) (count-in b j u)
             (every-at (λ j. sightTest (out (caseOf b) k) j (getD sights j row.out)) (count b) t j u);
@@ -178,13 +183,14 @@ row-sound (shows b sights) t =
     λ flow table after r l m e.
     shows-all b (well-sound b (and-left _ _ t)) flow table l m sights (and-left _ _ t₁) (and-left _ _ t₂) (and-right _ _ t₂) e
 row-sound (row.refuses b v group) t = λ flow table after r l m e. refuses-all b (well-sound b (and-left _ _ t)) flow table l m v group (and-right _ _ t) e
-row-sound (takes b k sights) t =
-    let t₁ = and-right _ _ t in
+row-sound (takes b k d sights) t =
+    let t₀ = and-right _ _ t in
+    let t₁ = and-right _ _ t₀ in
     let t₂ = and-right _ _ t₁ in
     let t₃ = and-right _ _ t₂ in
     let t₄ = and-right _ _ t₃ in
     λ flow table after r run e.
-    takes-all b (well-sound b (and-left _ _ t)) k (ltb-true _ _ (and-left _ _ t₁)) (and-left _ _ t₂) run e sights (and-left _ _ t₃) (and-left _ _ t₄) (and-right _ _ t₄)
+    takes-all b (well-sound b (and-left _ _ t)) k (ltb-true _ _ (and-left _ _ t₁)) (and-left _ _ t₂) run e d sights (bytes-sound _ _ (and-left _ _ t₀)) (and-left _ _ t₃) (and-left _ _ t₄) (and-right _ _ t₄)
 row-sound (keeps b k v group) t =
     let t₁ = and-right _ _ t in
     let t₂ = and-right _ _ t₁ in
@@ -203,8 +209,26 @@ unfolding rowsTest
 rows-sound (y ∷ ys) t x (List·Memᴰ·head e) = subst Holds (sym e) (row-sound y (and-left _ _ t))
 rows-sound (y ∷ ys) t x (List·Memᴰ·tail m) = rows-sound ys (and-right _ _ t) x m
 
+pub row-in : (xs : List Row) (k : ℕ) → k < length xs → List·Memᴰ (getD xs k (shows (triangle 1000 30 1 1) [])) xs
+row-in [] k u = absurd (omega arith)
+row-in (x ∷ xs) zero u = List·Memᴰ·head refl
+row-in (x ∷ xs) (suc k) u = List·Memᴰ·tail (row-in xs k (omega arith))
+
 -- Every row of the table holds.
 pub marked-examples : (x : Row) → List·Memᴰ x markedRows → Holds x
 unfolding rowsTest rowTest _&_ _⇒_ every some upTo over sum bitAt withBit setBit everyGroup mostTest smallestTest branchFault caseOf tooFar answerTo groupBytes
-    wellTest sameNumbers insideTest overloadTest noExcessTest sightTest
+    encode packed putItems put
+    wellTest sameRows insideTest overloadTest noExcessTest sightTest
 marked-examples = rows-sound markedRows refl
+
+-- (c) after (b): taking branch 1 out of what the outage of branch 0 left is refused.
+pub c-after-b : (flow : List ℤ) (table : List ℕ) (mid after : Lent) (r s : Answer) → Run (lent (encode (triangle 1000 30 1 1)) flow table)
+    → TakeEnds 0 (lent (encode (triangle 1000 30 1 1)) flow table) mid r → TakeEnds 1 mid after s → Refuses 30 (0 ∷ []) mid after s
+c-after-b flow table mid after r s run e f =
+    let t = marked-examples _ (row-in markedRows 2 (omega arith)) flow table mid r run e in
+    let c = marked-examples _ (row-in markedRows 4 (omega arith)) in
+    let q : mid ≡ lent (encode (triangle 1000 30 0 1)) (mid .flow) (mid .table) = ap (λ (bs : List ℕ). lent bs (mid .flow) (mid .table)) (t .book-is) in
+    let run′ : Run mid = taken 0 run e (is-accepted (t .answer)) in
+    subst (λ (l : Lent). TakeEnds 1 l after s → Refuses 30 (0 ∷ []) l after s) (sym q)
+    (c (mid .flow) (mid .table) after s (subst Run q run′))
+    f

@@ -65,18 +65,30 @@ well-sound b t =
     }
 
 -- ---- Signed numbers.
-unfoldable pub sameNumbers : List ℤ → List ℤ → Bool
-sameNumbers [] [] = true
-sameNumbers [] (y ∷ ys) = false
-sameNumbers (x ∷ xs) [] = false
-sameNumbers (x ∷ xs) (y ∷ ys) = eqb (posPart x + negPart y) (negPart x + posPart y) & sameNumbers xs ys
+unfoldable pub sameRows : {A : Type 0} → (A → A → Bool) → List A → List A → Bool
+sameRows same [] [] = true
+sameRows same [] (y ∷ ys) = false
+sameRows same (x ∷ xs) [] = false
+sameRows same (x ∷ xs) (y ∷ ys) = same x y & sameRows same xs ys
+
+rows-same : {A : Type 0} (same : A → A → Bool) → ((x y : A) → same x y ≡ true → x ≡ y) → (xs ys : List A) → sameRows same xs ys ≡ true → xs ≡ ys
+unfolding sameRows
+rows-same same sound [] [] t = refl
+rows-same same sound [] (y ∷ ys) t = absurd (true≢false (sym t))
+rows-same same sound (x ∷ xs) [] t = absurd (true≢false (sym t))
+rows-same same sound (x ∷ xs) (y ∷ ys) t = ap₂ _∷_ (sound x y (and-left _ _ t)) (rows-same same sound xs ys (and-right _ _ t))
+
+abbrev pub sameNumbers : List ℤ → List ℤ → Bool
+sameNumbers xs ys = sameRows (λ x y. eqb (posPart x + negPart y) (negPart x + posPart y)) xs ys
 
 pub same-sound : (xs ys : List ℤ) → sameNumbers xs ys ≡ true → xs ≡ ys
-unfolding sameNumbers
-same-sound [] [] t = refl
-same-sound [] (y ∷ ys) t = absurd (true≢false (sym t))
-same-sound (x ∷ xs) [] t = absurd (true≢false (sym t))
-same-sound (x ∷ xs) (y ∷ ys) t = ap₂ _∷_ (by-parts x y (eqb-true _ _ (and-left _ _ t))) (same-sound xs ys (and-right _ _ t))
+same-sound = rows-same _ (λ x y t. by-parts x y (eqb-true _ _ t))
+
+abbrev pub sameBytes : List ℕ → List ℕ → Bool
+sameBytes xs ys = sameRows eqb xs ys
+
+pub bytes-sound : (xs ys : List ℕ) → sameBytes xs ys ≡ true → xs ≡ ys
+bytes-sound = rows-same _ (λ x y t. eqb-true x y t)
 
 -- ---- The bytes of a group.
 pub long-group : (g : List ℕ) → length (groupBytes g) ≡ 16

@@ -7,8 +7,8 @@ use lib.ListN.{length, getD, take}
 use Rattle.answer.specs.Answer.{Said, noGroup}
 use Rattle.answer.specs.declared.Answer.{Answer}
 use Rattle.bits.specs.Field.{setBit}
-use Rattle.layout.specs.Book.{Book, buses, count}
-use Rattle.layout.specs.Layout.{statusBit, encode}
+use Rattle.layout.specs.Book.{Book, count}
+use Rattle.layout.specs.Layout.{encode}
 use Rattle.verdict.specs.Record.{recordAt}
 use Rattle.verdict.specs.Update.{Lent, Beyond}
 use Rattle.record.specs.Inside.{recordBytes}
@@ -38,12 +38,12 @@ sightBytes carries = recordBytes 1 0 noGroup []
 sightBytes (short v group) = recordBytes 2 v (groupBytes group) []
 
 -- A book and what is shown of its branches in their order; a book that is refused with 12, its shortage and group;
--- a book, a branch that is taken out and what is then shown, or the shortage and group with which that is refused;
+-- a book, a branch that is taken out, the book that is left and what is then shown, or the shortage and group with which that is refused;
 -- registers with the lent output, the number of the answer and the output left.
 pub data Row : Type 0 where
   shows : Book → List Sight → Row
   refuses : Book → ℕ → List ℕ → Row
-  takes : Book → ℕ → List Sight → Row
+  takes : Book → ℕ → Book → List Sight → Row
   keeps : Book → ℕ → ℕ → List ℕ → Row
   meters : Registers → List ℤ → ℕ → List ℤ → Row
 
@@ -58,10 +58,10 @@ pub record Refuses (v : ℕ) (group : List ℕ) (before after : Lent) (r : Answe
   pub answer : Said r 12 v (groupBytes group)
   pub kept : after ≡ before
 
--- What a call that takes branch b out then leaves.
-pub record Takes (B : Book) (b : ℕ) (sights : List Sight) (before after : Lent) (r : Answer) : Type 0 where
+-- What a call that makes the book B the book D then leaves.
+pub record Takes (B D : Book) (sights : List Sight) (before after : Lent) (r : Answer) : Type 0 where
   pub answer : Said r 0 0 noGroup
-  pub book-is : after .book ≡ setBit (encode B) (statusBit (buses B) b) 0
+  pub book-is : after .book ≡ encode D
   pub one-each : length sights ≡ count B
   pub records : (k : ℕ) → k < count B → take 20 (recordAt (after .table) k) ≡ sightBytes (getD sights k out)
 
@@ -84,6 +84,6 @@ Calls B b says =
 abbrev pub Holds : Row → Type 0
 Holds (shows b sights) = Screens b (Shows b sights)
 Holds (refuses b v group) = Screens b (Refuses v group)
-Holds (takes b k sights) = Calls b k (Takes b k sights)
+Holds (takes b k d sights) = Calls b k (Takes b d sights)
 Holds (keeps b k v group) = Calls b k (Refuses v group)
 Holds (meters R space number output) = (left : List ℤ) (r : Answer) → Metered R space left r → Leaves number output left r

@@ -44,9 +44,9 @@ abbrev pub markedRows : List Row
 markedRows =
     -- (a) all carry
     shows (triangle 1000 30 1 1) (carries ∷ carries ∷ carries ∷ [])
-    -- (b) branch 0 out, screened and through the call
+    -- (b) branch 0 out, screened and through the call, which leaves the book that (c) starts from
     ∷ shows (triangle 1000 30 0 1) (out ∷ short 30 (0 ∷ []) ∷ short 10 (0 ∷ 2 ∷ []) ∷ [])
-    ∷ takes (triangle 1000 30 1 1) 0 (out ∷ short 30 (0 ∷ []) ∷ short 10 (0 ∷ 2 ∷ []) ∷ [])
+    ∷ takes (triangle 1000 30 1 1) 0 (triangle 1000 30 0 1) (out ∷ short 30 (0 ∷ []) ∷ short 10 (0 ∷ 2 ∷ []) ∷ [])
     -- (c) then branch 1, likewise
     ∷ refuses (triangle 1000 30 0 0) 30 (0 ∷ [])
     ∷ keeps (triangle 1000 30 0 1) 1 30 (0 ∷ [])

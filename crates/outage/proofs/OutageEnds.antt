@@ -56,11 +56,12 @@ module _ (bs : List ℕ) (flow : List ℤ) (table : List ℕ) (b : ℕ) where
   C = caseIn bs
 
   -- Refused by its checks.
-  pub ends-refused : {r : Taken} (o : Outcome) → o ≡ checks → (o ≡ Accepted → ⊥) → r .answer ≡ bare o → TakeCounted b (lent bs flow table) (lent bs flow table) r
+  pub ends-refused : {r : Taken} (o : Outcome) → o ≡ checks → (o ≡ Accepted → ⊥) → (r .answer ≡ bare o) × (r .judged ≡ 0) → TakeCounted b (lent bs flow table) (lent bs flow table) r
   unfolding member
   ends-refused o e n a = record {
-    ends = refuses (λ q. n (e ∙ q)) (gives-said takeNumbers checks refl refl (take-gives bs (length flow) (length table) b) (a ∙ ap bare e)) refl;
-    judges = λ q. absurd (n (ap (λ (x : Answer). x .outcome) (sym a ∙ q)));
+    ends = refuses (λ q. n (e ∙ q)) (gives-said takeNumbers checks refl refl (take-gives bs (length flow) (length table) b) (a .0 ∙ ap bare e)) refl;
+    judges = λ q. absurd (n (ap (λ (x : Answer). x .outcome) (sym (a .0) ∙ q)));
+    none = λ _. a .1;
   }
 
   module _ (ok : checks ≡ Accepted) where
@@ -99,11 +100,12 @@ module _ (bs : List ℕ) (flow : List ℤ) (table : List ℕ) (b : ℕ) where
             (small-injections (bookOf bs) (accepted-well bs (may .passes .book)) (q .gain) (q .load) gains loads)
 
         module _ (x : Lending) (d : Fitted (q .wires) flow (q .live) (q .gain) (q .load) x) where
-          pub ends-unfit : {t : Taken} → x .fits ≡ false → t .answer ≡ refused 11 → TakeCounted b (lent bs flow table) (lent bs flow table) t
-          ends-unfit e a = record {
+          pub ends-unfit : {t : Taken} → x .fits ≡ false → t .answer ≡ refused 11 → t .judged ≡ 0 → TakeCounted b (lent bs flow table) (lent bs flow table) t
+          ends-unfit e a z = record {
             ends = unfit ok (lending.fit-not C (level-of bs) (q .wires) (q .served) (q .live) (q .gain) (q .load) held-here gains loads flow x d e)
                 (rw a (said-refused 11 (λ z. omega arith) (λ z. omega arith))) refl;
             judges = λ q. absurd (refusal-stands 11 (ap (λ (x : Answer). x .outcome) (sym a ∙ q)));
+            none = λ _. z;
           }
 
           module _ (e : x .fits ≡ true) where
@@ -114,11 +116,12 @@ module _ (bs : List ℕ) (flow : List ℤ) (table : List ℕ) (b : ℕ) where
             losable-here = losable C (on flow) (q .wires) (q .served) (q .live) (x .latent) state b (sizes .2)
 
             module _ (named : List ℕ) (y : Judgement) (z : Replaced (q .wires) (q .live) (x .latent) named b y) where
-              pub ends-short : {t : Taken} (v : ℕ) → y .verdict ≡ Short v → length (y .group) ≡ 16 → t .answer ≡ overloaded v (y .group) → TakeCounted b (lent bs flow table) (lent bs flow table) t
+              pub ends-short : {t : Taken} (v : ℕ) → y .verdict ≡ Short v → length (y .group) ≡ 16 → (t .answer ≡ overloaded v (y .group)) × (t .judged ≡ 0) → TakeCounted b (lent bs flow table) (lent bs flow table) t
               ends-short v w l a = record {
                 ends = overloads ok (state .fits)
-                    (rw a (leaving.overload-out C (level-of bs) flow (q .wires) (q .served) (q .live) (x .latent) state b there named y z v w l)) refl;
-                judges = λ q. absurd (omega (arith, ap (λ (x : Answer). numberOf (x .outcome)) (sym a ∙ q)));
+                    (rw (a .0) (leaving.overload-out C (level-of bs) flow (q .wires) (q .served) (q .live) (x .latent) state b there named y z v w l)) refl;
+                judges = λ q. absurd (omega (arith, ap (λ (x : Answer). numberOf (x .outcome)) (sym (a .0) ∙ q)));
+                none = λ _. a .1;
               }
 
               module _ (ls : length (q .served) ≡ 256) (ll : length (q .live) ≡ 256) where
@@ -177,6 +180,7 @@ module _ (bs : List ℕ) (flow : List ℤ) (table : List ℕ) (b : ℕ) where
                         let redone = fresh (out C b) (on flow′) state-left in
                         let list′ : Listing (C .branches) served touched table bits = rw (held-here .branches-are) at list in
                         record {
+                          none = λ n. absurd (n a);
                           judges = λ _. judges (out C b) served touched (Touched (on flow) (on flow′) b) (held-here .posed .few-branches) (state-left .held .served-is) marks only table bits list′ (losses-are ∙ redone .judged-is);
                           ends = accepts ok (state .fits) (rw a said-accepted) (record {
                             book-is = i;

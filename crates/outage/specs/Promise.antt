@@ -60,7 +60,7 @@ TakeEnds b before after r =
     Ends (takeCheck (before .book) (length (before .flow)) (length (before .table)) b)
     (caseIn (before .book)) (out (caseIn (before .book)) b) (TakenOut b before after) before after r
 
--- ---- The same call, with the losses that were judged on the way: as many as there are records on the shortlist and in service.
+-- ---- The same call, with the losses that were judged on the way: as many as there are records on the shortlist and in service, and none for a refusal.
 pub record Judges (C : Case) (touched : ℕ → Type 0) (table : List ℕ) (n : ℕ) : Type 0 where
   pub judged : ℕ → Bool
   pub if-listed : (k : ℕ) → k < C .branches → Shortlisted C table touched k → C .served k ≡ true → judged k ≡ true
@@ -70,3 +70,4 @@ pub record Judges (C : Case) (touched : ℕ → Type 0) (table : List ℕ) (n : 
 pub record TakeCounted (b : ℕ) (before after : Lent) (r : Taken) : Type 0 where
   pub ends : TakeEnds b before after (r .answer)
   pub judges : r .answer ≡ accepted → Judges (out (caseIn (before .book)) b) (Touched (on (before .flow)) (on (after .flow)) b) (before .table) (r .judged)
+  pub none : (r .answer ≡ accepted → ⊥) → r .judged ≡ 0

@@ -102,7 +102,7 @@ fn told(outcome: Outcome, judged: usize) -> Taken
 }
 
 fn short(excess: u32, group: [u8; 16]) -> Taken
-    ensures { λ r. ⌜ r .answer ≡ overloaded excess group ⌝ }
+    ensures { λ r. ⌜ (r .answer ≡ overloaded excess group) × (r .judged ≡ 0) ⌝ }
 {
     let answer = Answer {
         outcome: Outcome::Overloaded(excess),

@@ -2,7 +2,7 @@
 use mathlib.Core.Path.{_≡_}
 use mathlib.Core.Bool.{Bool, cond}
 use mathlib.Core.List.{List, [], _∷_}
-use Prim.Native.Nat.{ℕ, _+_, _<_, _≤_, min}
+use Prim.Native.Nat.{ℕ, _+_, _-_, _<_, _≤_, min}
 use lib.Dec.{eqb, ltb}
 use lib.ListN.{length, replicate}
 use Rattle.rows.specs.Row.{nth}
@@ -127,9 +127,16 @@ pub record Queued (n : ℕ) (m q : List ℕ) (t : ℕ) : Type 0 where
   pub held : (v : ℕ) → 0 < nth m v → (p : ℕ) × (p < t) × (nth q p ≡ v)
   pub once : (p p′ : ℕ) → p < p′ → p′ < t → nth q p ≡ nth q p′ → ⊥
 
-abbrev pub RouteOrGroup : Scene → List ℕ → List ℕ → Search → Type 0
-RouteOrGroup N m g (Route v r s) = Routed N m v r s × (g ≡ replicate 16 0)
-RouteOrGroup N m g Group = Grouped N m g
+-- The scan stopped the moment it reached the goal v: v is the last of the t buses queued, and no other goal is marked.
+pub record Stopped (N : Scene) (m q : List ℕ) (t v : ℕ) : Type 0 where
+  pub some : 0 < t
+  pub last : nth q (t - 1) ≡ v
+  pub only : (u : ℕ) → 0 < nth m u → nth (N .roles) u ≡ 2 → u ≡ v
+
+-- Of t buses queued in q and marked in m.
+abbrev pub RouteOrGroup : Scene → List ℕ → List ℕ → ℕ → List ℕ → Search → Type 0
+RouteOrGroup N m q t g (Route v r s) = Routed N m v r s × Stopped N m q t v × (g ≡ replicate 16 0)
+RouteOrGroup N m q t g Group = Grouped N m g
 
 -- What a search asks for: links, and no mark yet.
 pub record Searchable (W : Wires) (w : Work) : Type 0 where
@@ -139,4 +146,4 @@ pub record Searchable (W : Wires) (w : Work) : Type 0 where
 pub record Searched (W : Wires) (w : Work) (roles : List ℕ) (r : Found) : Type 0 where
   pub same-latent : r .work .latent ≡ w .latent
   pub queued : Queued (W .buses) (r .work .marks) (r .work .queue) (r .taken)
-  pub said : RouteOrGroup (scene W (w .latent) roles) (r .work .marks) (r .group) (r .answer)
+  pub said : RouteOrGroup (scene W (w .latent) roles) (r .work .marks) (r .work .queue) (r .taken) (r .group) (r .answer)

@@ -2,6 +2,7 @@ pub mod Plain
 pub mod Fitting
 pub mod Loss
 pub mod VerdictByCase
+pub mod Named
 pub mod Keep
 pub mod Updates
 pub mod Alike

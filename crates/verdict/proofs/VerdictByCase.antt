@@ -2,7 +2,7 @@
 use mathlib.Core.Path.{_≡_, refl, sym, ap, _∙_, subst}
 use mathlib.Core.Bool.{Bool, true, false, true≢false}
 use mathlib.Core.List.{List}
-use Prim.Native.Nat.{ℕ, zero, suc, _+_, _*_, _≤_, _<_}
+use Prim.Native.Nat.{ℕ, zero, suc, _+_, _-_, _*_, _≤_, _<_}
 use native.Mathlib.Omega.{arith}
 use borrow.Author.Tests.{eqb-true, eqb-false}
 use lib.IntN.{ℤ, pos}
@@ -19,7 +19,7 @@ use Rattle.grid.proofs.OneSmallestGroup.{same-truth}
 use Rattle.quantity.proofs.Parts.{at-most}
 use Rattle.verdict.specs.Case.{Case}
 use Rattle.verdict.specs.Excess.{Largest, Overload, Short}
-use Rattle.verdict.specs.Record.{recordAt, verdictIn, shortageIn, groupIn, Told, is-out, carries, short, TrueRecord, TrueTable}
+use Rattle.verdict.specs.Record.{recordAt, verdictIn, shortageIn, groupIn, names, Told, is-out, carries, short, TrueRecord, TrueTable}
 use Rattle.verdict.proofs.Loss.{never-both}
 
 clash : {X : Type 0} {t : Bool} → t ≡ true → t ≡ false → X
@@ -50,15 +50,29 @@ bytes-part r n at h j = elim (side j n) [
     past : n ≤ j → nth (take n (drop at r)) j < 256
     past l = rw (List·getD-eq-default (take n (drop at r)) 0 {n = j} (omega (arith, length-take n (drop at r)))) (omega arith)
 
-group-bytes : (r s : List ℕ) → length r ≡ 52 → length s ≡ 52 → Bytes r → Bytes s → ((i : ℕ) → groupIn r i ≡ groupIn s i) → (m : ℕ) → m < 16 → nth r (4 + m) ≡ nth s (4 + m)
-group-bytes r s lr ls br bs h m l =
-    let e : take 16 (drop 4 r) ≡ take 16 (drop 4 s) =
-    same-names (take 16 (drop 4 r)) (take 16 (drop 4 s)) (simp (length-take, length-drop) (omega arith)) (bytes-part r 16 4 br) (bytes-part s 16 4 bs) h in
-    sym (getD-drop 4 r m 0)
-    ∙ sym (getD-take 16 (drop 4 r) m 0 l)
+-- Parts of n bytes that name the same numbers are the same.
+part-bytes : (r s : List ℕ) (n at : ℕ) → length r ≡ length s → Bytes r → Bytes s → ((i : ℕ) → has (take n (drop at r)) i ≡ has (take n (drop at s)) i) → (m : ℕ) → m < n → nth r (at + m) ≡ nth s (at + m)
+part-bytes r s n at lr br bs h m l =
+    let e : take n (drop at r) ≡ take n (drop at s) =
+    same-names (take n (drop at r)) (take n (drop at s)) (simp (length-take, length-drop, lr) refl) (bytes-part r n at br) (bytes-part s n at bs) h in
+    sym (getD-drop at r m 0)
+    ∙ sym (getD-take n (drop at r) m 0 l)
     ∙ ap (λ (x : List ℕ). nth x m) e
-    ∙ getD-take 16 (drop 4 s) m 0 l
-    ∙ getD-drop 4 s m 0
+    ∙ getD-take n (drop at s) m 0 l
+    ∙ getD-drop at s m 0
+
+-- Records that show the same in their first twenty bytes and name the same branches are the same.
+pub same-record : (r s : List ℕ) → length r ≡ 52 → length s ≡ 52 → Bytes r → Bytes s → ((j : ℕ) → j < 20 → nth r j ≡ nth s j) → ((j : ℕ) → names r j ≡ names s j) → r ≡ s
+same-record r s lr ls br bs first same = ext-getD 0 r s (lr ∙ sym ls) (λ j l. elim (side j 20) [
+  | below u ↦ first j u
+  | equal u ↦ late j (omega arith) (omega (arith, lr))
+  | above u ↦ late j (omega arith) (omega (arith, lr))
+])
+  where
+    late : (j : ℕ) → 20 ≤ j → j < 52 → nth r j ≡ nth s j
+    late j u v =
+        let e : 20 + (j - 20) ≡ j = omega arith in
+        rw e at (part-bytes r s 32 20 (lr ∙ sym ls) br bs same (j - 20) (omega arith))
 
 three : (a b c x y z : ℕ) → a < 256 → b < 256 → c < 256 → x < 256 → y < 256 → z < 256 → a * 65536 + b * 256 + c ≡ x * 65536 + y * 256 + z → (a ≡ x) × (b ≡ y) × (c ≡ z)
 three a b c x y z ha hb hc hx hy hz e =
@@ -100,7 +114,7 @@ module _ (C : Case) (k : ℕ) (r s : List ℕ) (lr : length r ≡ 52) (ls : leng
   short-same sr ss j l u =
       let one = largest-unique sr ss in
       let n = three (nth r 1) (nth r 2) (nth r 3) (nth s 1) (nth s 2) (nth s 3) (br 1) (br 2) (br 3) (bs 1) (bs 2) (bs 3) (one .0) in
-      let g = group-bytes r s lr ls br bs (one .1) in
+      let g = part-bytes r s 16 4 (lr ∙ sym ls) br bs (one .1) in
       go j l u n g
     where
       go : (j : ℕ) → 1 ≤ j → j < 20 → (nth r 1 ≡ nth s 1) × (nth r 2 ≡ nth s 2) × (nth r 3 ≡ nth s 3) → ((m : ℕ) → m < 16 → nth r (4 + m) ≡ nth s (4 + m)) → nth r j ≡ nth s j
@@ -121,27 +135,10 @@ module _ (C : Case) (k : ℕ) (r s : List ℕ) (lr : length r ≡ 52) (ls : leng
   first-told f g (short i c v z) (carries i′ c′ v′ z′ m′) = absurd (never-both C k (shortageIn r) (groupIn r) c′ c)
   first-told f g (short i c v z) (short i′ c′ v′ z′) = front r s 20 (v ∙ sym v′) (short-same c c′)
 
-  rest-told : (f g : ℕ → ℤ) → Told C f k r → Told C g k s → (verdictIn r ≡ 1 → ⊥) → (j : ℕ) → 20 ≤ j → j < 52 → nth r j ≡ nth s j
-  rest-told f g (is-out i v z) (is-out i′ v′ z′) n j l u = z j (omega arith) u ∙ sym (z′ j (omega arith) u)
-  rest-told f g (is-out i v z) (carries i′ c v′ z′ m) n j l u = clash i′ i
-  rest-told f g (is-out i v z) (short i′ c v′ z′) n j l u = clash i′ i
-  rest-told f g (carries i c v z m) t n j l u = absurd (n v)
-  rest-told f g (short i c v z) (is-out i′ v′ z′) n j l u = clash i i′
-  rest-told f g (short i c v z) (carries i′ c′ v′ z′ m′) n j l u = absurd (never-both C k (shortageIn r) (groupIn r) c′ c)
-  rest-told f g (short i c v z) (short i′ c′ v′ z′) n j l u = z j l u ∙ sym (z′ j l u)
-
 module _ (C : Case) (f g : ℕ → ℤ) (k : ℕ) (r s : List ℕ) (a : TrueRecord C f k r) (b : TrueRecord C g k s) where
   -- Bytes 0 to 19, whatever the flow.
   pub first-twenty : (j : ℕ) → j < 20 → nth r j ≡ nth s j
   first-twenty = first-told C k r s (a .long) (b .long) (a .bytes) (b .bytes) f g (a .told) (b .told)
-
-  -- All 52 bytes of a branch that isn't shown as carrying.
-  pub whole-record : (verdictIn r ≡ 1 → ⊥) → r ≡ s
-  whole-record n = ext-getD 0 r s (a .long ∙ sym (b .long)) (λ j l. elim (side j 20) [
-    | below u ↦ first-twenty j u
-    | equal u ↦ rest-told C k r s (a .long) (b .long) (a .bytes) (b .bytes) f g (a .told) (b .told) n j (omega arith) (omega (arith, a .long))
-    | above u ↦ rest-told C k r s (a .long) (b .long) (a .bytes) (b .bytes) f g (a .told) (b .told) n j (omega arith) (omega (arith, a .long))
-  ])
 
 -- Two true tables of a case show the same verdicts, shortages and groups.
 pub tables-agree : (C : Case) (f g : List ℤ) (t u : List ℕ) → TrueTable C f t → TrueTable C g u → (k : ℕ) → k < C .branches → (j : ℕ) → j < 20 → nth (recordAt t k) j ≡ nth (recordAt u k) j

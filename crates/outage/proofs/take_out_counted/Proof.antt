@@ -107,7 +107,7 @@ same-length : tie.Need-same-length
 same-length c = search needs
 
 returns : tie.Need-returns
-returns c = ends-refused _ _ _ _ _ (c .before .before .check .ensures) (not-accepted _ (c .before .match .keys2)) (c .told .ensures .0)
+returns c = ends-refused _ _ _ _ _ (c .before .before .check .ensures) (not-accepted _ (c .before .match .keys2)) (c .told .ensures)
 
 rows-of-requires : tie.Need-rows-of-requires
 rows-of-requires c κs =
@@ -143,7 +143,7 @@ returns-2 c =
     let m = rows-made x in
     let t = told m in
     ends-unfit (bytes t) (lent-flow t) (lent-table t) (lost t) (ok t) _ (m .before .rows-of .ensures) _ (m .prepare .ensures) _ (x .test .ensures) (not-true _ (c .before .before .if1 .taken))
-    (c .told2 .ensures .0 ∙ ap bare (c .before .refuse .ensures))
+    (c .told2 .ensures .0 ∙ ap bare (c .before .refuse .ensures)) (c .told2 .ensures .1)
 
 stretch-requires : tie.Need-stretch-requires
 stretch-requires c κs =

@@ -1,11 +1,19 @@
 -- A branch without flow, named branches that take its flow, or all of them: each way meets the promise.
 use borrow.Author.Needs.{needs}
-use mathlib.Core.Path.{_≡_}
+use mathlib.Core.Path.{_≡_, subst}
+use mathlib.Core.List.{List}
+use Prim.Native.Nat.{ℕ}
 use lib.ListN.{length}
+use Rattle.search.specs.declared.Latent.{Latent}
+use Rattle.replace.specs.Inside.{Chosen}
 use Rattle.replace.proofs.Confining.{ready}
 use Rattle.replace.proofs.Replacing.{replaced-still, replaced-named, replaced-all}
 use Rattle.replace.proofs.replace.Statement.{statement}
 use Rattle.replace.proofs.replace.Tie as tie
+
+-- What is chosen beside a row is chosen beside an equal one.
+beside : {n : ℕ} {named : List ℕ} {x y z r : Latent} → y ≡ z → Chosen n named x y r → Chosen n named x z r
+beside {n} {named} {x} {r = r} e h = subst (λ (w : Latent). Chosen n named x w r) e h
 
 long-ahead : (c : tie.Start) → length (c .args .t3 .ahead) ≡ 256
 long-ahead c = search needs
@@ -61,7 +69,8 @@ returns-2 c =
     let s = m .before .before .before .before .before .before in
     let cut = m .before .before .before .before .before .without .ensures in
     replaced-named _ _ _ _ _ (s .pre) (long-ahead s) (long-back s) (m .before .before .before .if1 .left) _ (rw cut at (m .before .chosen .ensures)) _
-    (m .before .before .rest-of .ensures) _ (m .reroute .ensures) (c .before .before .before .if2 .taken) _ _ (rw cut at (c .before .chosen2 .ensures)) (c .stands2 .ensures)
+    (m .before .before .rest-of .ensures) _ (m .reroute .ensures) (c .before .before .before .if2 .taken) _ _
+    (beside cut (c .before .chosen2 .ensures)) (c .stands2 .ensures)
 
 loss-requires : tie.Need-loss-requires
 loss-requires c κs = search needs

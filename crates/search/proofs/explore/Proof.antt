@@ -9,7 +9,7 @@ use Rattle.rows.specs.Row.{nth}
 use Rattle.search.specs.InsideLinks.{branchOf}
 use Rattle.search.proofs.Scan.{Scan, Turn, scan-start, here-bus, turn-start, here-origin, turn-next, far-row}
 use Rattle.search.proofs.Scan.{turn-skip, turn-room, turn-tree, turn-hit, turn-mark, turn-end}
-use Rattle.search.proofs.Answering.{searched-group, searched-route}
+use Rattle.search.proofs.Answering.{stopped, searched-group, searched-route}
 use Rattle.search.proofs.explore.Statement.{statement}
 use Rattle.search.proofs.explore.Tie as tie
 
@@ -200,6 +200,7 @@ returns c =
     searched-route
     (turn-tree (w .4 .inv) (w .5 .taken) refl refl (w .9 .ensures) (w .10 .taken) z _ (w .13 .ensures))
     (turn-hit (w .4 .inv) (w .5 .taken) refl refl (w .9 .ensures) (w .10 .taken) z _ (w .13 .ensures) (w .15 .taken))
+    (stopped _ _ (w .4 .inv .scan) (turn-room (w .4 .inv) (w .5 .taken) refl refl (w .9 .ensures) (w .10 .taken) z _ (w .13 .ensures)))
     (c .packed .ensures) (w .16) (w .17))
     (c .before .if1 .came)
 

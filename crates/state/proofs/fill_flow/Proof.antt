@@ -37,7 +37,7 @@ array-read-difference-2 : tie.Need-array-read-difference-2 Inv-loop μ-loop
 array-read-difference-2 c = omega arith
 
 difference-requires : tie.Need-difference-requires Inv-loop μ-loop
-difference-requires c κs = c .before .loop .inv .0 .small (c .before .loop .k) (c .loop-test .taken)
+difference-requires c κs = let s = c .before .loop .inv .0 .small (c .before .loop .k) (c .loop-test .taken) in (omega (arith, s), omega (arith, s))
 
 mul-t18 : tie.Need-mul-t18 Inv-loop μ-loop
 mul-t18 c = omega arith
