@@ -5,22 +5,26 @@ use Prim.Native.Nat.{ℕ, _+_, _*_, _<_, _≤_}
 use native.Mathlib.Omega.{arith}
 use native.Mathlib.Nat.{mul-suc}
 use native.Mathlib.Numerals.{add-one}
-use lib.ListN.{length, getD, take, set, length-set, length-append}
-use lib.Seq.{take-suc, take-suc-set, take-length}
+use lib.ListN.{length, getD, take, drop, set, length-set, length-append}
+use lib.Seq.{take-suc, take-suc-set, take-length, drop-drop, drop-set-lt}
 use Rattle.line.specs.Text.{joined}
 use Rattle.line.specs.Inside.{Added}
 
 pub added-none : (l : List ℕ) (at : ℕ) → Added [] l at l at
-added-none l at = record { ends = omega arith; holds = sym (append-nil (take at l)) }
+added-none l at = record { ends = omega arith; holds = sym (append-nil (take at l)); rest = refl }
 
 pub added-byte : (l : List ℕ) (at x : ℕ) → at < length l → Added (x ∷ []) l at (set l at x) (at + 1)
-added-byte l at x h = record { ends = refl; holds = rw add-one (take-suc-set l at x h) }
+added-byte l at x h = record { ends = refl; holds = rw add-one (take-suc-set l at x h); rest = drop-set-lt (at + 1) l at x (omega arith) }
 
 pub added-then : {s t l m n : List ℕ} {a b c : ℕ} → Added s l a m b → Added t m b n c → Added (s ++ t) l a n c
-added-then {s} {t} {l} {a = a} p q = record {
+added-then {s} {t} {l} {m} {a = a} {b} {c} p q = record {
   ends = rw (length-append s t) (omega (arith, p .ends, q .ends));
   holds = q .holds ∙ ap (λ (u : List ℕ). u ++ t) (p .holds) ∙ append-assoc (take a l) s t;
+  rest = q .rest ∙ further (q .ends) (p .rest);
 }
+  where
+    further : c ≡ b + length t → drop b m ≡ drop b l → drop c m ≡ drop c l
+    further e h = rw (e, ← drop-drop (length t) b m, ← drop-drop (length t) b l, h) refl
 
 pub added-same : {s t l m : List ℕ} {a b : ℕ} → s ≡ t → Added s l a m b → Added t l a m b
 added-same {l = l} {m} {a} {b} e p = subst (λ (u : List ℕ). Added u l a m b) e p
