@@ -9,6 +9,7 @@ use lib.ListN.{length, getD, take, drop, set, length-set, length-append}
 use lib.Seq.{take-suc, take-suc-set, take-length, drop-drop, drop-set-lt}
 use Rattle.line.specs.Text.{joined}
 use Rattle.line.specs.Inside.{Added}
+use Rattle.line.proofs.Joined.{joined-none, joined-more}
 
 pub added-none : (l : List ℕ) (at : ℕ) → Added [] l at l at
 added-none l at = record { ends = omega arith; holds = sym (append-nil (take at l)); rest = refl }
@@ -57,14 +58,6 @@ module _ (text l : List ℕ) (a : ℕ) where
   copied {m} {i} p h =
       let e : i ≡ length text = omega (arith, p .upto) in
       added-same (ap (λ (k : ℕ). take k text) e ∙ take-length text) (p .added)
-
-joined-none : (f : ℕ → List ℕ) → joined 0 f ≡ []
-unfolding joined
-joined-none f = refl
-
-joined-more : (n : ℕ) (f : ℕ → List ℕ) → joined (n + 1) f ≡ joined n f ++ f n
-unfolding joined
-joined-more n f = rw add-one refl
 
 -- Of n texts, each of at most w bytes, i stand in the line.
 pub record Joining (f : ℕ → List ℕ) (w n : ℕ) (l : List ℕ) (a : ℕ) (m : List ℕ) (b i : ℕ) : Type 0 where

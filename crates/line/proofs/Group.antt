@@ -3,7 +3,7 @@ use mathlib.Core.Path.{_≡_, refl, ap, _∙_}
 use mathlib.Core.Bool.{Bool, true, false, cond}
 use mathlib.Core.List.{List, []}
 use mathlib.Core.Logic.{_≢_}
-use Prim.Native.Nat.{ℕ, zero, suc, _+_, _<_, _≤_}
+use Prim.Native.Nat.{ℕ, _+_, _<_, _≤_}
 use native.Mathlib.Omega.{arith}
 use borrow.Author.Tests.{eq-eqb, ne-eqb}
 use lib.Dec.{eqb}
@@ -15,9 +15,10 @@ use Rattle.listing.specs.declared.Members.{Members}
 use Rattle.listing.specs.Inside.{Listed}
 use Rattle.line.specs.Text.{nextOf, joined}
 use Rattle.line.specs.Inside.{Added}
+use Rattle.line.proofs.Joined.{joined-same}
 use Rattle.line.proofs.Adding.{Joining, joining-more, joined-all, added-none, added-then, added-same}
 use Rattle.line.proofs.FewestDigits.{length-next}
-use Rattle.line.specs.AnswerText.{busText, groupText}
+use Rattle.line.specs.AnswerText.{groupText}
 
 -- Bus i where its flag is 1.
 abbrev pub flagText : List ℕ → ℕ → List ℕ
@@ -36,13 +37,8 @@ flag-is : (t : Bool) (i : ℕ) → cond (eqb (pick t 1) 1) (nextOf i) [] ≡ con
 flag-is true i = refl
 flag-is false i = refl
 
-joined-same : (n : ℕ) (f g : ℕ → List ℕ) → ((i : ℕ) → i < n → f i ≡ g i) → joined n f ≡ joined n g
-unfolding joined
-joined-same zero f g h = refl
-joined-same (suc n) f g h = rw (joined-same n f g (λ i u. h i (omega arith)), h n (omega arith)) refl
-
 -- The count, then all the flags.
 pub group-added : {group : List ℕ} {r : Members} {l k m : List ℕ} {a b c i : ℕ} → Listed group r → Added (nextOf (r .count)) l a k b → Joining (flagText (r .flags)) 21 128 k b m c i → 128 ≤ i → Added (groupText group) l a m c
 group-added {group} {r} {l} {k} {m} {a} {b} {c} s p q h =
-    let e : joined 128 (flagText (r .flags)) ≡ joined 128 (busText group) = joined-same 128 _ _ (λ i u. ap (λ (x : ℕ). cond (eqb x 1) (nextOf i) []) (s .flags-are i u) ∙ flag-is (has group i) i) in
+    let e : joined 128 (flagText (r .flags)) ≡ joined 128 (λ i. cond (has group i) (nextOf i) []) = joined-same 128 _ _ (λ i u. ap (λ (x : ℕ). cond (eqb x 1) (nextOf i) []) (s .flags-are i u) ∙ flag-is (has group i) i) in
     added-then (rw (s .count-is) at p) (added-same e (joined-all (flagText (r .flags)) 21 128 k b q h))

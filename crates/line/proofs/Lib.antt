@@ -1,3 +1,5 @@
+pub mod Joined
 pub mod Adding
 pub mod FewestDigits
 pub mod Group
+pub mod Members

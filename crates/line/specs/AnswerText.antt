@@ -5,16 +5,17 @@ use Prim.Native.Nat.{ℕ}
 use Rattle.answer.specs.declared.Answer.{Answer}
 use Rattle.answer.specs.Answer.{numberOf, shortageOf}
 use Rattle.rows.specs.Bit.{has}
+use Rattle.rows.specs.Sum.{Group}
 use Rattle.listing.specs.Members.{size}
 use Rattle.line.specs.Text.{nextOf, joined}
 
--- Bus i where it is in the group.
-abbrev pub busText : List ℕ → ℕ → List ℕ
-busText group i = cond (has group i) (nextOf i) []
+-- How many of the buses below n are in S, and these in rising order.
+abbrev pub membersText : ℕ → Group → List ℕ
+membersText n S = nextOf (size n S) ++ joined n (λ i. cond (S i) (nextOf i) [])
 
--- The number of buses in the group, and these in rising order.
+-- The same of a group in 16 bytes, which name no bus past 128.
 abbrev pub groupText : List ℕ → List ℕ
-groupText group = nextOf (size 128 (has group)) ++ joined 128 (busText group)
+groupText group = membersText 128 (has group)
 
 -- The number, the shortage, the group.
 abbrev pub answerText : Answer → List ℕ

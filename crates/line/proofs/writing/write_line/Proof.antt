@@ -25,7 +25,7 @@ same-length : tie.Need-same-length
 same-length c = search needs
 
 returns : tie.Need-returns
-returns c = let p = c .before .before .before .before .put .ensures in rw (p .ends) at p
+returns c = let p = c .before .before .before .before .put .ensures in (rw (p .ends) at p, p .ends)
 
 pub write-line-spec : {M : Type 1} → statement M
 write-line-spec =
