@@ -1,24 +1,31 @@
 -- What a line says in each case of what is shown, and of a refusal.
-use mathlib.Core.Path.{_≡_, refl, sym, _∙_}
-use mathlib.Core.List.{append-nil, _++_}
+use mathlib.Core.Path.{_≡_, refl, sym, _∙_, subst}
+use mathlib.Core.List.{List, append-nil, _++_}
 use mathlib.Core.Logic.{_≢_}
 use Prim.Native.Nat.{ℕ}
 use borrow.Author.Tests.{eq-eqb, ne-eqb}
 use Rattle.answer.specs.declared.Answer.{Answer}
 use Rattle.answer.specs.Answer.{numberOf, shortageOf}
+use Rattle.verdict.specs.Record.{recordAt, verdictIn}
 use Rattle.record.specs.declared.Entry.{Entry}
+use Rattle.record.specs.Inside.{Stretch, Read}
 use Rattle.line.specs.Text.{nextOf}
 use Rattle.printing.specs.Lines.{outWord, carriesWord, shortWord, shortText, shownText, reasonText}
 
-module _ (s : Entry) where
-  pub shown-out : s .verdict ≡ 0 → outWord ≡ shownText s
-  shown-out h = rw (eq-eqb (s .verdict) 0 h) refl
+-- The stretch that was cut and what was read from it, as what is read of the table's record.
+pub read-of : {table rec : List ℕ} {k : ℕ} {s : Entry} → Stretch table k rec → Read rec s → Read (recordAt table k) s
+read-of {s = s} c r = subst (λ (x : List ℕ). Read x s) (c .its-bytes) r
 
-  pub shown-carries : s .verdict ≢ 0 → s .verdict ≡ 1 → carriesWord ≡ shownText s
-  shown-carries g h = rw (ne-eqb (s .verdict) 0 g, eq-eqb (s .verdict) 1 h) refl
+module _ {rec : List ℕ} {s : Entry} (r : Read rec s) where
+  pub shown-out : s .verdict ≡ 0 → outWord ≡ shownText rec
+  shown-out h = rw (eq-eqb (verdictIn rec) 0 (sym (r .verdict-is) ∙ h)) refl
 
-  pub shown-short : s .verdict ≢ 0 → s .verdict ≢ 1 → shortWord ++ shortText (s .shortage) (s .group) ≡ shownText s
-  shown-short g h = rw (ne-eqb (s .verdict) 0 g, ne-eqb (s .verdict) 1 h) refl
+  pub shown-carries : s .verdict ≢ 0 → s .verdict ≡ 1 → carriesWord ≡ shownText rec
+  shown-carries g h = rw (ne-eqb (verdictIn rec) 0 (λ q. g (r .verdict-is ∙ q)), eq-eqb (verdictIn rec) 1 (sym (r .verdict-is) ∙ h)) refl
+
+  pub shown-short : s .verdict ≢ 0 → s .verdict ≢ 1 → shortWord ++ shortText (s .shortage) (s .group) ≡ shownText rec
+  shown-short g h =
+      rw (ne-eqb (verdictIn rec) 0 (λ q. g (r .verdict-is ∙ q)), ne-eqb (verdictIn rec) 1 (λ q. h (r .verdict-is ∙ q)), r .shortage-is, r .group-is) refl
 
 module _ (r : Answer) where
   pub reason-twelve : {n kw : ℕ} → n ≡ numberOf (r .outcome) → n ≡ 12 → kw ≡ shortageOf (r .outcome) → nextOf n ++ shortText kw (r .group) ≡ reasonText r

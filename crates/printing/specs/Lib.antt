@@ -1,2 +1,3 @@
-pub mod List
 pub mod Lines
+pub mod List
+pub mod Inside

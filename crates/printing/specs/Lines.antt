@@ -1,17 +1,19 @@
--- The text of each line of document 01's list.
+-- The text of each line of document 01's list, without its newline.
 use mathlib.Core.Bool.{cond}
 use mathlib.Core.List.{List, [], _∷_, _++_}
 use Prim.Native.Nat.{ℕ}
 use lib.Dec.{eqb}
+use lib.ListN.{take, drop}
 use Rattle.answer.specs.declared.Answer.{Answer}
 use Rattle.answer.specs.Answer.{numberOf, shortageOf}
-use Rattle.record.specs.declared.Entry.{Entry}
+use Rattle.layout.specs.Layout.{busesIn, branchesIn}
+use Rattle.verdict.specs.Record.{recordAt, verdictIn, shortageIn}
 use Rattle.line.specs.Text.{decimalOf, nextOf}
 use Rattle.line.specs.AnswerText.{groupText}
 
--- Bus count, branch count.
-abbrev pub headText : ℕ → ℕ → List ℕ
-headText buses branches = decimalOf buses ++ nextOf branches
+-- Bus count, branch count of the book.
+abbrev pub headText : List ℕ → List ℕ
+headText bs = decimalOf (busesIn bs) ++ nextOf (branchesIn bs)
 
 -- The bytes of ` out`, ` carries`, ` short` and `refused`.
 abbrev pub outWord : List ℕ
@@ -30,13 +32,13 @@ refusedWord = 114 ∷ 101 ∷ 102 ∷ 117 ∷ 115 ∷ 101 ∷ 100 ∷ []
 abbrev pub shortText : ℕ → List ℕ → List ℕ
 shortText shortage group = nextOf shortage ++ groupText group
 
--- What a record shows: verdict 0 is out, 1 carries, any other is short.
-abbrev pub shownText : Entry → List ℕ
-shownText s = cond (eqb (s .verdict) 0) outWord (cond (eqb (s .verdict) 1) carriesWord (shortWord ++ shortText (s .shortage) (s .group)))
+-- What a record shows: verdict 0 is out, 1 carries, any other is short with the shortage and the group of bytes 4 to 19.
+abbrev pub shownText : List ℕ → List ℕ
+shownText rec = cond (eqb (verdictIn rec) 0) outWord (cond (eqb (verdictIn rec) 1) carriesWord (shortWord ++ shortText (shortageIn rec) (take 16 (drop 4 rec))))
 
--- The branch's number, then what its record shows.
-abbrev pub branchText : ℕ → Entry → List ℕ
-branchText k s = decimalOf k ++ shownText s
+-- The branch's number, then what its record in the table shows.
+abbrev pub branchText : List ℕ → ℕ → List ℕ
+branchText table k = decimalOf k ++ shownText (recordAt table k)
 
 -- The number of the refusal; for 12 also shortage and group.
 abbrev pub reasonText : Answer → List ℕ

@@ -1,14 +1,34 @@
--- What a printed list was made from.
-use mathlib.Core.List.{List}
+-- The whole list of a book, and what printing it promises.
+use mathlib.Core.Path.{_≡_}
+use mathlib.Core.List.{List, [], _∷_, _++_}
 use Prim.Native.Nat.{ℕ}
 use lib.IntN.{pos}
-use lib.ListN.{replicate}
+use lib.ListN.{length, replicate}
 use Rattle.answer.specs.declared.Answer.{Answer}
+use Rattle.answer.specs.Answer.{settled}
+use Rattle.layout.specs.Layout.{branchesIn}
 use Rattle.verdict.specs.Update.{Lent}
 use Rattle.state.specs.Call.{lent}
 use Rattle.screen.specs.Promise.{ScreenEnds}
+use Rattle.line.specs.Text.{joined}
+use Rattle.printing.specs.Lines.{headText, branchText, refusedText}
+use Rattle.printing.specs.declared.Printout.{Printout}
 
--- The answer of a screen of the book, lent room for 256 branches: no book is refused for want of it.
-pub record Answers (bs : List ℕ) (r : Answer) : Type 0 where
+-- A text and its newline, 10.
+abbrev pub lineOf : List ℕ → List ℕ
+lineOf text = text ++ (10 ∷ [])
+
+-- First line: bus count, branch count. Then a line a branch.
+abbrev pub acceptedText : List ℕ → List ℕ → List ℕ
+acceptedText bs table = lineOf (headText bs) ++ joined (branchesIn bs) (λ k. lineOf (branchText table k))
+
+-- A refused book gives one line.
+abbrev pub listText : List ℕ → Answer → List ℕ → List ℕ
+listText bs r table = settled (r .outcome) (lineOf (refusedText r)) (acceptedText bs table)
+
+-- The answer of a screen of the book, lent room for 256 branches: no book is refused for want of it. As many bytes were handed to `write`, line by
+-- line, as the list of that answer and of the table left has.
+pub record Printed (bs : List ℕ) (r : Printout) : Type 0 where
   pub after : Lent
-  pub ends : ScreenEnds (lent bs (replicate 256 (pos 0)) (replicate 13312 0)) after r
+  pub ends : ScreenEnds (lent bs (replicate 256 (pos 0)) (replicate 13312 0)) after (r .answer)
+  pub long : r .length ≡ length (listText bs (r .answer) (after .table))

@@ -1,5 +1,5 @@
 // The lines of document 01's list, each built in lent bytes from their first place on: where it ends comes back.
-ghost use Prim.Native.Nat.{_+_, _≤_};
+ghost use Prim.Native.Nat.{_+_, _*_, _≤_};
 ghost use lib.ListN.{length};
 ghost use Rattle.line.specs.Inside.{Added};
 ghost use Rattle.printing.specs.Lines.{headText, shortText, branchText, refusedText};
@@ -10,15 +10,16 @@ use line::put;
 use line::put_decimal;
 use line::put_group;
 use line::put_next;
-use record::Entry;
 
-pub fn put_head(out: &mut [u8], buses: usize, branches: usize) -> usize
+// The counts as the book's header has them.
+pub fn put_head(out: &mut [u8], book: &[u8]) -> usize
     requires { ⌜ 41 ≤ length (now out) ⌝ }
-    ensures { λ r. ⌜ Added (headText buses branches) (now (out .entry)) 0 (now (out .exit)) r ⌝ }
+    ensures { λ r. ⌜ Added (headText (now (book .entry))) (now (out .entry)) 0 (now (out .exit)) r ⌝ }
     ensures { λ r. ⌜ r ≤ 41 ⌝ }
 {
-    let after = put_decimal(out, 0, buses as u64);
-    put_next(out, after, branches as u64)
+    let head = layout::head_of(book);
+    let after = put_decimal(out, 0, head.buses as u64);
+    put_next(out, after, head.branches as u64)
 }
 
 // Shortage, number of buses in the group, and these in rising order.
@@ -31,11 +32,13 @@ fn put_short(out: &mut [u8], at: usize, shortage: u32, group: [u8; 16]) -> usize
     put_group(out, after, group)
 }
 
-pub fn put_branch(out: &mut [u8], k: usize, entry: Entry) -> usize
-    requires { ⌜ 2756 ≤ length (now out) ⌝ }
-    ensures { λ r. ⌜ Added (branchText k entry) (now (out .entry)) 0 (now (out .exit)) r ⌝ }
+// What the record of branch k shows: its stretch of the table is cut and read here, so that no number of another branch can stand beside it.
+pub fn put_branch(out: &mut [u8], table: &[u8], k: usize) -> usize
+    requires { ⌜ (2756 ≤ length (now out)) × (52 * k + 52 ≤ length (now table)) ⌝ }
+    ensures { λ r. ⌜ Added (branchText (now (table .entry)) k) (now (out .entry)) 0 (now (out .exit)) r ⌝ }
     ensures { λ r. ⌜ r ≤ 2756 ⌝ }
 {
+    let entry = record::read(record::stretch(table, k));
     let verdict = entry.verdict;
     let group = entry.group;
     let after_number = put_decimal(out, 0, k as u64);

@@ -1,17 +1,19 @@
--- `list` reads only records of its table: the table is as long as 256 of them.
+-- `list` prints the head line and then the line of each branch of the book.
 use borrow.Author.Needs.{needs}
 use native.Mathlib.Omega.{arith}
 use mathlib.Core.Path.{_≡_}
-use Prim.Native.Nat.{_-_, _≤_}
-use lib.ListN.{length}
+use Prim.Native.Nat.{_-_}
+use Rattle.layout.specs.Layout.{branchesIn}
+use Rattle.printing.specs.Inside.{Listable}
+use Rattle.printing.proofs.Counted.{Printing, printing-none, printing-more, printed-all}
 use Rattle.printing.proofs.list.Statement.{statement}
 use Rattle.printing.proofs.list.Tie as tie
 
 abbrev Inv-loop : tie.InvT-loop
-Inv-loop book table branches k₀ k = (length table ≡ 13312) × (k ≤ 256)
+Inv-loop book table branches length₀ k₀ length k = Printing book table length k
 
 abbrev μ-loop : tie.MeasureT-loop
-μ-loop book table branches k₀ k = 256 - k
+μ-loop book table branches length₀ k₀ length k = branches - k
 
 head-of-requires : tie.Need-head-of-requires Inv-loop μ-loop
 head-of-requires c κs = search needs
@@ -20,16 +22,13 @@ print-head-requires : tie.Need-print-head-requires Inv-loop μ-loop
 print-head-requires c κs = search needs
 
 loop-holds : tie.Need-loop-holds Inv-loop μ-loop
-loop-holds c = (omega arith, omega arith)
-
-stretch-requires : tie.Need-stretch-requires Inv-loop μ-loop
-stretch-requires c κs = search needs
-
-read-requires : tie.Need-read-requires Inv-loop μ-loop
-read-requires c κs = c .stretch .ensures .long
+loop-holds c = printing-none _ _ (c .print-head .ensures)
 
 print-branch-requires : tie.Need-print-branch-requires Inv-loop μ-loop
 print-branch-requires c κs = search needs
+
+add-length : tie.Need-add-length Inv-loop μ-loop
+add-length c = omega arith
 
 add-k : tie.Need-add-k Inv-loop μ-loop
 add-k c = omega arith
@@ -38,10 +37,10 @@ loop-less : tie.Need-loop-less Inv-loop μ-loop
 loop-less c = omega arith
 
 loop-again : tie.Need-loop-again Inv-loop μ-loop
-loop-again c = (omega arith, omega arith)
+loop-again c = printing-more _ _ (c .before .before .loop .inv) (omega (arith, c .before .loop-test .taken, c .before .before .before .before .head-of .ensures .branches-are)) (c .print-branch .ensures)
 
 returns : tie.Need-returns Inv-loop μ-loop
-returns c = omega arith
+returns c = printed-all _ _ (c .before .loop .inv) (omega (arith, c .before .before .before .head-of .ensures))
 
 pub list-spec : {M : Type 1} → statement M
 list-spec =
@@ -52,9 +51,8 @@ list-spec =
     head-of-requires
     print-head-requires
     loop-holds
-    stretch-requires
-    read-requires
     print-branch-requires
+    add-length
     add-k
     loop-less
     loop-again

@@ -2,9 +2,15 @@
 use borrow.Author.Needs.{needs}
 use native.Mathlib.Omega.{arith}
 use Rattle.line.proofs.Adding.{added-same, added-then}
-use Rattle.printing.proofs.Texts.{shown-out, shown-carries, shown-short}
+use Rattle.printing.proofs.Texts.{read-of, shown-out, shown-carries, shown-short}
 use Rattle.printing.proofs.lines.put_branch.Statement.{statement}
 use Rattle.printing.proofs.lines.put_branch.Tie as tie
+
+stretch-requires : tie.Need-stretch-requires
+stretch-requires c κs = search needs
+
+read-requires : tie.Need-read-requires
+read-requires c κs = c .stretch .ensures .long
 
 put-decimal-requires : tie.Need-put-decimal-requires
 put-decimal-requires c κs = search needs
@@ -22,8 +28,10 @@ returns : tie.Need-returns
 returns c =
     let word = c .before .before in
     let test = word .before .before .before in
-    let number = test .before .before .before in (
-      added-then (number .put-decimal .ensures .0) (added-same (shown-out (number .before .before .before .before .args .entry) (test .if1 .taken)) (word .put .ensures)),
+    let number = test .before .before .before in
+    let shown = number .before .before .before in
+    let is-read = read-of (shown .before .stretch .ensures) (shown .read .ensures) in (
+      added-then (number .put-decimal .ensures .0) (added-same (shown-out is-read (test .if1 .taken)) (word .put .ensures)),
       omega (arith, number .put-decimal .ensures .1, word .put .ensures .ends),
     )
 
@@ -40,9 +48,11 @@ returns-2 : tie.Need-returns-2
 returns-2 c =
     let word = c .before .before in
     let test = word .before .before .before in
-    let number = test .before .before .before .before in (
+    let number = test .before .before .before .before in
+    let shown = number .before .before .before in
+    let is-read = read-of (shown .before .stretch .ensures) (shown .read .ensures) in (
       added-then (number .put-decimal .ensures .0)
-          (added-same (shown-carries (number .before .before .before .before .args .entry) (test .before .if1 .left) (test .if2 .taken)) (word .put2 .ensures)),
+          (added-same (shown-carries is-read (test .before .if1 .left) (test .if2 .taken)) (word .put2 .ensures)),
       omega (arith, number .put-decimal .ensures .1, word .put2 .ensures .ends),
     )
 
@@ -63,9 +73,11 @@ returns-3 c =
     let short = c .before .before in
     let word = short .before .before .before .before in
     let test = word .before .before .before in
-    let number = test .before .before .before .before in (
+    let number = test .before .before .before .before in
+    let shown = number .before .before .before in
+    let is-read = read-of (shown .before .stretch .ensures) (shown .read .ensures) in (
       added-then (number .put-decimal .ensures .0)
-          (added-same (shown-short (number .before .before .before .before .args .entry) (test .before .if1 .left) (test .if2 .left))
+          (added-same (shown-short is-read (test .before .if1 .left) (test .if2 .left))
           (added-then (word .put3 .ensures) (short .put-short .ensures .0))),
       omega (arith, number .put-decimal .ensures .1, word .put3 .ensures .ends, short .put-short .ensures .1),
     )
@@ -74,6 +86,8 @@ pub put-branch-spec : {M : Type 1} → statement M
 put-branch-spec =
     tie.close
     (tie.spec
+    stretch-requires
+    read-requires
     put-decimal-requires
     slice-aggregate-put
     put-requires

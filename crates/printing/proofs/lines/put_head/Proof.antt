@@ -5,6 +5,9 @@ use Rattle.line.proofs.Adding.{added-then}
 use Rattle.printing.proofs.lines.put_head.Statement.{statement}
 use Rattle.printing.proofs.lines.put_head.Tie as tie
 
+head-of-requires : tie.Need-head-of-requires
+head-of-requires c κs = search needs
+
 put-decimal-requires : tie.Need-put-decimal-requires
 put-decimal-requires c κs = search needs
 
@@ -18,7 +21,10 @@ returns : tie.Need-returns
 returns c =
     let last = c .before .before in
     let first = last .before .before .before .before in
-    (added-then (first .put-decimal .ensures .0) (last .put-next .ensures .0), omega (arith, first .put-decimal .ensures .1, last .put-next .ensures .1))
+    let head = first .before .before .head-of .ensures in (
+      added-then (rw (head .buses-are) at (first .put-decimal .ensures .0)) (rw (head .branches-are) at (last .put-next .ensures .0)),
+      omega (arith, first .put-decimal .ensures .1, last .put-next .ensures .1),
+    )
 
 pub put-head-spec : {M : Type 1} → statement M
-put-head-spec = tie.close (tie.spec put-decimal-requires put-next-requires same-length returns)
+put-head-spec = tie.close (tie.spec head-of-requires put-decimal-requires put-next-requires same-length returns)
