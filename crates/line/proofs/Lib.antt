@@ -3,3 +3,4 @@ pub mod Adding
 pub mod FewestDigits
 pub mod Group
 pub mod Members
+pub mod Plain

@@ -19,7 +19,7 @@ pub record Done (before after : Lent) : Type 0 where
   pub passes : Passed (before .book) (length (before .flow)) (length (before .table))
   pub screened : Screened (caseIn (before .book)) before after
 
-number-zero : {o : Outcome} → o ≡ Accepted → numberOf o ≡ 0
+pub number-zero : {o : Outcome} → o ≡ Accepted → numberOf o ≡ 0
 number-zero e = ap numberOf e
 
 pub accepted-screen : {before after : Lent} {r : Answer} → ScreenEnds before after r → r .outcome ≡ Accepted → Done before after

@@ -1,3 +1,7 @@
 pub mod Texts
 pub mod Ended
 pub mod Counted
+pub mod ShownOfCase
+pub mod LinesApart
+pub mod InTheList
+pub mod OneList

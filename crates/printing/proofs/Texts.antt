@@ -1,4 +1,4 @@
--- What a line says in each case of what is shown, and of a refusal.
+-- What the head line says, and a line in each case of what is shown and of a refusal.
 use mathlib.Core.Path.{_≡_, refl, sym, _∙_, subst}
 use mathlib.Core.List.{List, append-nil, _++_}
 use mathlib.Core.Logic.{_≢_}
@@ -6,11 +6,16 @@ use Prim.Native.Nat.{ℕ}
 use borrow.Author.Tests.{eq-eqb, ne-eqb}
 use Rattle.answer.specs.declared.Answer.{Answer}
 use Rattle.answer.specs.Answer.{numberOf, shortageOf}
+use Rattle.layout.specs.declared.Head.{Head}
+use Rattle.layout.specs.Inside.{HeadRead}
 use Rattle.verdict.specs.Record.{recordAt, verdictIn}
 use Rattle.record.specs.declared.Entry.{Entry}
 use Rattle.record.specs.Inside.{Stretch, Read}
-use Rattle.line.specs.Text.{nextOf}
-use Rattle.printing.specs.Lines.{outWord, carriesWord, shortWord, shortText, shownText, reasonText}
+use Rattle.line.specs.Text.{decimalOf, nextOf}
+use Rattle.printing.specs.Lines.{headText, outWord, carriesWord, shortWord, shortText, shownText, reasonText}
+
+pub head-shown : {bs : List ℕ} {h : Head} → HeadRead bs h → decimalOf (h .buses) ++ nextOf (h .branches) ≡ headText bs
+head-shown e = rw (e .buses-are, e .branches-are) refl
 
 -- The stretch that was cut and what was read from it, as what is read of the table's record.
 pub read-of : {table rec : List ℕ} {k : ℕ} {s : Entry} → Stretch table k rec → Read rec s → Read (recordAt table k) s

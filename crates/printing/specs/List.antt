@@ -1,7 +1,9 @@
 -- The whole list of a book, and what printing it promises.
 use mathlib.Core.Path.{_≡_}
+use mathlib.Core.Bool.{cond}
 use mathlib.Core.List.{List, [], _∷_, _++_}
-use Prim.Native.Nat.{ℕ}
+use Prim.Native.Nat.{ℕ, zero, suc}
+use lib.Dec.{eqb}
 use lib.IntN.{pos}
 use lib.ListN.{length, replicate}
 use Rattle.answer.specs.declared.Answer.{Answer}
@@ -25,6 +27,12 @@ acceptedText bs table = lineOf (headText bs) ++ joined (branchesIn bs) (λ k. li
 -- A refused book gives one line.
 abbrev pub listText : List ℕ → Answer → List ℕ → List ℕ
 listText bs r table = settled (r .outcome) (lineOf (refusedText r)) (acceptedText bs table)
+
+-- Line n of a text, counted from 0: the bytes past n newlines and before the next.
+unfoldable pub lineAt : ℕ → List ℕ → List ℕ
+lineAt n [] = []
+lineAt zero (x ∷ xs) = cond (eqb x 10) [] (x ∷ lineAt zero xs)
+lineAt (suc n) (x ∷ xs) = cond (eqb x 10) (lineAt n xs) (lineAt (suc n) xs)
 
 -- The answer of a screen of the book, lent room for 256 branches: no book is refused for want of it. As many bytes were handed to `write`, line by
 -- line, as the list of that answer and of the table left has.

@@ -1,7 +1,8 @@
 -- `put_head` adds the bus count and the branch count.
 use borrow.Author.Needs.{needs}
 use native.Mathlib.Omega.{arith}
-use Rattle.line.proofs.Adding.{added-then}
+use Rattle.line.proofs.Adding.{added-same, added-then}
+use Rattle.printing.proofs.Texts.{head-shown}
 use Rattle.printing.proofs.lines.put_head.Statement.{statement}
 use Rattle.printing.proofs.lines.put_head.Tie as tie
 
@@ -22,7 +23,7 @@ returns c =
     let last = c .before .before in
     let first = last .before .before .before .before in
     let head = first .before .before .head-of .ensures in (
-      added-then (rw (head .buses-are) at (first .put-decimal .ensures .0)) (rw (head .branches-are) at (last .put-next .ensures .0)),
+      added-same (head-shown head) (added-then (first .put-decimal .ensures .0) (last .put-next .ensures .0)),
       omega (arith, first .put-decimal .ensures .1, last .put-next .ensures .1),
     )
 

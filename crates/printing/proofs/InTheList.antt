@@ -1,0 +1,139 @@
+-- Each line of the printed list in document 01's words, over the case of the book: `out`, `carries`, or `short` with the shortage and the group of
+-- demand 2, whose members are counted over the book's own buses; and the one line of a refused book.
+use mathlib.Core.Path.{_≡_, refl, sym, ap, _∙_}
+use mathlib.Core.Bool.{Bool, true, false}
+use mathlib.Core.List.{List, [], _∷_, _++_, append-nil}
+use Prim.Native.Nat.{ℕ, suc, _≤_, _<_}
+use native.Mathlib.Omega.{arith}
+use lib.Dec.{eqb}
+use lib.IntN.{ℤ}
+use lib.ListN.{take, drop}
+use borrow.Author.Tests.{eq-eqb, ne-eqb}
+use Rattle.rows.specs.Row.{member}
+use Rattle.rows.specs.Sum.{Group}
+use Rattle.answer.specs.declared.Answer.{Answer}
+use Rattle.answer.specs.declared.Outcome.{Outcome}
+use Rattle.answer.specs.declared.Outcome.the-variants.{Accepted}
+use Rattle.answer.specs.Answer.{numberOf, shortageOf, noGroup, Said, settled}
+use Rattle.answer.proofs.Numbers.{gives-not}
+use Rattle.answer.proofs.Refusals.{leaves}
+use Rattle.layout.specs.Layout.{busesIn, branchesIn}
+use Rattle.layout.proofs.WellFormed.{buses-of}
+use Rattle.verdict.specs.Case.{Case, on}
+use Rattle.verdict.specs.Excess.{Overload, Short, Carries}
+use Rattle.verdict.specs.Record.{recordAt, verdictIn, shortageIn, Told}
+use Rattle.verdict.specs.Update.{Lent}
+use Rattle.verdict.proofs.Fitting.{fits-none}
+use Rattle.verdict.proofs.Loss.{never-overload}
+use Rattle.state.specs.Case.{caseOf, caseIn}
+use Rattle.state.specs.Call.{lent, lentNumbers, OverloadSaid}
+use Rattle.state.proofs.Checked.{passed, passing, posed-book, lent-gives}
+use Rattle.state.proofs.Status.{branches-of}
+use Rattle.screen.specs.Promise.{screenCheck, ScreenEnds, refuses, overloads, accepts}
+use Rattle.line.specs.Text.{decimalOf, nextOf, joined}
+use Rattle.line.specs.AnswerText.{membersText}
+use Rattle.line.proofs.Plain.{Plain, plain-then, plain-cond, plain-decimal, plain-next, plain-members}
+use Rattle.printing.specs.Lines.{headText, outWord, carriesWord, shortWord, refusedWord, shownText, branchText, reasonText, refusedText}
+use Rattle.printing.specs.List.{lineOf, lineAt, acceptedText, listText}
+use Rattle.printing.proofs.Texts.{reason-twelve, reason-other}
+use Rattle.printing.proofs.Ended.{number-zero, accepted-screen}
+use Rattle.printing.proofs.ShownOfCase.{shortOver, short-over, shows-out, shows-carries, shows-short}
+use Rattle.printing.proofs.LinesApart.{first-line, next-line, line-of-joined}
+
+case-buses : (bs : List ℕ) → caseIn bs .buses ≡ busesIn bs
+unfolding caseOf
+case-buses bs = buses-of bs
+
+-- ---- The lines stand apart: line 0 is the head line, and line k + 1 that of branch k.
+plain-out : Plain outWord
+unfolding Plain
+plain-out = (refl, (refl, (refl, (refl, tt))))
+
+plain-carries : Plain carriesWord
+unfolding Plain
+plain-carries = (refl, (refl, (refl, (refl, (refl, (refl, (refl, (refl, tt))))))))
+
+plain-short : Plain shortWord
+unfolding Plain
+plain-short = (refl, (refl, (refl, (refl, (refl, (refl, tt))))))
+
+plain-branch : (table : List ℕ) (k : ℕ) → Plain (branchText table k)
+plain-branch table k =
+    plain-then (decimalOf k) _ (plain-decimal k)
+    (plain-cond (eqb (verdictIn rec) 0) _ _ plain-out
+    (plain-cond (eqb (verdictIn rec) 1) _ _ plain-carries
+    (plain-then shortWord _ plain-short (plain-then (nextOf (shortageIn rec)) _ (plain-next _) (plain-members 128 _)))))
+  where
+    rec : List ℕ
+    rec = recordAt table k
+
+accepted-is : (bs : List ℕ) (r : Answer) (table : List ℕ) → r .outcome ≡ Accepted → listText bs r table ≡ acceptedText bs table
+accepted-is bs r table e = ap (λ (o : Outcome). settled o (lineOf (refusedText r)) (acceptedText bs table)) e
+
+module _ (bs : List ℕ) (r : Answer) (table : List ℕ) (ok : r .outcome ≡ Accepted) where
+  pub head-line : lineAt 0 (listText bs r table) ≡ headText bs
+  head-line = rw (accepted-is bs r table ok) (first-line (headText bs) _ (plain-then (decimalOf (busesIn bs)) _ (plain-decimal _) (plain-next _)))
+
+  pub branch-line : (k : ℕ) → k < branchesIn bs → lineAt (suc k) (listText bs r table) ≡ branchText table k
+  branch-line k l =
+      rw (accepted-is bs r table ok)
+      (next-line k (headText bs) _ (plain-then (decimalOf (busesIn bs)) _ (plain-decimal _) (plain-next _))
+      ∙ ap (lineAt k) (sym (append-nil (joined (branchesIn bs) (λ k. lineOf (branchText table k)))))
+      ∙ line-of-joined (branchText table) (plain-branch table) (branchesIn bs) k [] l)
+
+-- ---- An accepted book.
+module _ {bs : List ℕ} {flow : List ℤ} {table : List ℕ} {after : Lent} {r : Answer} (ends : ScreenEnds (lent bs flow table) after r) where
+  few : r .outcome ≡ Accepted → caseIn bs .buses ≤ 128
+  few ok = posed-book bs (accepted-screen ends ok .passes .book) .few-buses
+
+  told : (ok : r .outcome ≡ Accepted) (k : ℕ) → k < branchesIn bs → Told (caseIn bs) (on (after .flow)) k (recordAt (after .table) k)
+  told ok k l = accepted-screen ends ok .screened .table-true .each k (rw (branches-of bs) l) .told
+
+  module _ (ok : r .outcome ≡ Accepted) (k : ℕ) (l : k < branchesIn bs) where
+    shown : (t : List ℕ) → shownText (recordAt (after .table) k) ≡ t → lineAt (suc k) (listText bs r (after .table)) ≡ decimalOf k ++ t
+    shown t e = branch-line bs r (after .table) ok k l ∙ ap (λ (x : List ℕ). decimalOf k ++ x) e
+
+    -- A branch out of service.
+    pub out-line : caseIn bs .served k ≡ false → lineAt (suc k) (listText bs r (after .table)) ≡ decimalOf k ++ outWord
+    out-line h = shown outWord (shows-out (caseIn bs) (few ok) k _ _ (told ok k l) h)
+
+    -- One that carries.
+    pub carries-line : caseIn bs .served k ≡ true → Carries (caseIn bs) k → lineAt (suc k) (listText bs r (after .table)) ≡ decimalOf k ++ carriesWord
+    carries-line h c = shown carriesWord (shows-carries (caseIn bs) (few ok) k _ _ (told ok k l) h c)
+
+    -- One that is short, by any v and S that the case has: v, how many of the book's buses are in S, and these in rising order.
+    pub short-line : caseIn bs .served k ≡ true → (v : ℕ) (S : Group) → Short (caseIn bs) k v S
+        → lineAt (suc k) (listText bs r (after .table)) ≡ decimalOf k ++ (shortWord ++ (nextOf v ++ membersText (busesIn bs) S))
+    short-line h v S s =
+        shown (shortWord ++ shortOver (caseIn bs .buses) v S) (shows-short (caseIn bs) (few ok) k _ _ (told ok k l) h v S s)
+        ∙ ap (λ (n : ℕ). decimalOf k ++ (shortWord ++ shortOver n v S)) (case-buses bs)
+
+-- ---- A refused book.
+said-number-only : {r : Answer} {n : ℕ} → Said r n 0 noGroup → (n ≡ 12 → ⊥) → refusedText r ≡ refusedWord ++ nextOf n
+said-number-only {r} {n} s h = ap (λ (t : List ℕ). refusedWord ++ t) (sym (reason-other r (sym (s .number-is)) h))
+
+over-said : (C : Case) → C .buses ≤ 128 → {r : Answer} → OverloadSaid C r → (v : ℕ) (S : Group) → Overload C v S → refusedText r ≡ refusedWord ++ (nextOf 12 ++ shortOver (C .buses) v S)
+over-said C few {r} o v S s =
+    rw (o .answer .number-is, o .answer .shortage-is, o .answer .group-is) (ap (λ (t : List ℕ). refusedWord ++ (nextOf 12 ++ t)) (short-over (o .group) few s (o .overload)))
+
+module _ {bs : List ℕ} {flow : List ℤ} {table : List ℕ} {after : Lent} {r : Answer} where
+  -- By its check: the number alone.
+  pub refused-line : ScreenEnds (lent bs flow table) after r → (screenCheck (lent bs flow table) ≡ Accepted → ⊥)
+      → listText bs r (after .table) ≡ lineOf (refusedWord ++ nextOf (numberOf (screenCheck (lent bs flow table))))
+  unfolding member
+  refused-line (refuses n a k) h =
+      leaves (r .outcome) _ _ (λ e. n (passing _ _ _ (accepted-screen (refuses n a k) e .passes)))
+      ∙ ap lineOf (said-number-only a (gives-not lentNumbers (screenCheck (lent bs flow table)) 12 (lent-gives _ _ _) refl (λ z. omega arith)))
+  refused-line (overloads c o k) h = absurd (h c)
+  refused-line (accepts c a s) h = absurd (h c)
+
+  -- By its base excess: 12, then any v and S that the case has, as in the line of a short branch.
+  pub overload-line : ScreenEnds (lent bs flow table) after r → screenCheck (lent bs flow table) ≡ Accepted → (v : ℕ) (S : Group) → Overload (caseIn bs) v S
+      → listText bs r (after .table) ≡ lineOf (refusedWord ++ (nextOf 12 ++ (nextOf v ++ membersText (busesIn bs) S)))
+  overload-line (refuses n a k) c v S s = absurd (n c)
+  overload-line (overloads c o k) c′ v S s =
+      leaves (r .outcome) _ _ (λ e. absurd (omega (arith, o .answer .number-is, number-zero e)))
+      ∙ ap lineOf (over-said (caseIn bs) (posed-book bs (passed _ _ _ c .book) .few-buses) o v S s)
+      ∙ ap (λ (n : ℕ). lineOf (refusedWord ++ (nextOf 12 ++ shortOver n v S))) (case-buses bs)
+  overload-line (accepts c a x) c′ v S s =
+      absurd (never-overload (caseIn bs) v S (fits-none (caseIn bs) (on (after .flow)) (posed-book bs (passed _ _ _ c .book)) (x .table-true .fits)) s)

@@ -1,0 +1,83 @@
+-- Any two printed lists of a book are one list: the same answer, the same bytes, the same length.
+use mathlib.Core.Path.{_≡_, refl, sym, ap, _∙_, subst}
+use mathlib.Core.List.{List, _++_}
+use Prim.Native.Nat.{ℕ, _≤_, _<_}
+use lib.ListN.{length}
+use Rattle.rows.specs.Bit.{has}
+use Rattle.answer.specs.declared.Answer.{Answer}
+use Rattle.answer.specs.declared.Outcome.the-variants.{Accepted}
+use Rattle.answer.specs.Answer.{Said, settled}
+use Rattle.answer.proofs.Said.{said-same}
+use Rattle.layout.specs.Layout.{branchesIn}
+use Rattle.verdict.specs.Case.{Case, on}
+use Rattle.verdict.specs.Record.{recordAt, TrueTable}
+use Rattle.verdict.specs.Update.{Lent}
+use Rattle.verdict.proofs.Fitting.{fits-none}
+use Rattle.verdict.proofs.Loss.{never-overload}
+use Rattle.verdict.proofs.VerdictByCase.{largest-unique, same-names}
+use Rattle.state.specs.Case.{caseIn}
+use Rattle.state.specs.Call.{OverloadSaid}
+use Rattle.state.proofs.Checked.{passed, posed-book}
+use Rattle.state.proofs.Status.{branches-of}
+use Rattle.screen.specs.Promise.{Screened, screenCheck, ScreenEnds, refuses, overloads, accepts}
+use Rattle.line.specs.Text.{decimalOf, joined}
+use Rattle.line.proofs.Joined.{joined-same}
+use Rattle.printing.specs.Lines.{headText, refusedText}
+use Rattle.printing.specs.List.{lineOf, acceptedText, listText, Printed}
+use Rattle.printing.specs.declared.Printout.{Printout}
+use Rattle.printing.proofs.ShownOfCase.{shows-same}
+
+over-same : (C : Case) {r s : Answer} → OverloadSaid C r → OverloadSaid C s → r ≡ s
+over-same C {r} {s} o p =
+    let u = largest-unique (o .overload) (p .overload) in
+    let g = same-names (o .group) (p .group) (o .long ∙ sym (p .long)) (o .bytes) (p .bytes) (u .1) in
+    said-same (o .answer) (subst (λ (v : ℕ). Said s 12 v (o .group)) (sym (u .0)) (subst (λ (b : List ℕ). Said s 12 (p .shortage) b) (sym g) (p .answer)))
+
+accepted-same : (bs : List ℕ) {before one two : Lent} → caseIn bs .buses ≤ 128 → Screened (caseIn bs) before one → Screened (caseIn bs) before two
+    → acceptedText bs (one .table) ≡ acceptedText bs (two .table)
+accepted-same bs {one = one} {two} few x y =
+    ap (λ (t : List ℕ). lineOf (headText bs) ++ t)
+    (joined-same (branchesIn bs) _ _ (λ k l.
+    let u : k < caseIn bs .branches = rw (branches-of bs) l in
+    ap (λ (t : List ℕ). lineOf (decimalOf k ++ t))
+    (shows-same (caseIn bs) few k (recordAt (one .table) k) (recordAt (two .table) k) _ _ (x .table-true .each k u .told) (y .table-true .each k u .told))))
+
+-- Two results of a screen of one book, with the same lent: the answers, and with them the lists.
+pub record SameList (bs : List ℕ) (one two : Lent) (r s : Answer) : Type 0 where
+  pub answers : r ≡ s
+  pub texts : listText bs r (one .table) ≡ listText bs s (two .table)
+
+kept-list : (bs : List ℕ) {before one two : Lent} {r s : Answer} → r ≡ s → one ≡ before → two ≡ before → SameList bs one two r s
+kept-list bs {before} {one} {two} {r} {s} e a b = record {
+  answers = e;
+  texts = ap (λ (x : Answer). listText bs x (one .table)) e ∙ ap (λ (l : Lent). listText bs s (l .table)) (a ∙ sym b);
+}
+
+not-over : {before after : Lent} {t : Answer} → screenCheck before ≡ Accepted → Screened (caseIn (before .book)) before after → OverloadSaid (caseIn (before .book)) t → ⊥
+not-over {before} {after} c x o =
+    never-overload (caseIn (before .book)) (o .shortage) (has (o .group)) (fits-none (caseIn (before .book)) (on (after .flow)) (posed-book (before .book) (passed _ _ _ c .book)) (x .table-true .fits)) (o .overload)
+
+module _ {before one two : Lent} {r s : Answer} where
+  pub lists-same : ScreenEnds before one r → ScreenEnds before two s → SameList (before .book) one two r s
+  lists-same (refuses n a k) (refuses n′ a′ k′) = kept-list (before .book) (said-same a a′) k k′
+  lists-same (refuses n a k) (overloads c o k′) = absurd (n c)
+  lists-same (refuses n a k) (accepts c a′ x) = absurd (n c)
+  lists-same (overloads c o k) (refuses n a k′) = absurd (n c)
+  lists-same (overloads c o k) (overloads c′ o′ k′) = kept-list (before .book) (over-same (caseIn (before .book)) o o′) k k′
+  lists-same (overloads c o k) (accepts c′ a x) = absurd (not-over c x o)
+  lists-same (accepts c a x) (refuses n a′ k) = absurd (n c)
+  lists-same (accepts c a x) (overloads c′ o k) = absurd (not-over c x o)
+  lists-same (accepts c a x) (accepts c′ a′ y) =
+      let e = said-same a a′ in
+      let t = accepted-same (before .book) (posed-book (before .book) (passed _ _ _ c .book) .few-buses) x y in
+      record { answers = e; texts = ap (λ (q : Answer). listText (before .book) q (one .table)) e ∙ ap (λ (l : List ℕ). settled (s .outcome) (lineOf (refusedText s)) l) t }
+
+module _ {bs : List ℕ} {r s : Printout} (p : Printed bs r) (q : Printed bs s) where
+  pub one-answer : r .answer ≡ s .answer
+  one-answer = lists-same (p .ends) (q .ends) .answers
+
+  pub one-list : listText bs (r .answer) (p .after .table) ≡ listText bs (s .answer) (q .after .table)
+  one-list = lists-same (p .ends) (q .ends) .texts
+
+  pub one-length : r .length ≡ s .length
+  one-length = p .long ∙ ap length one-list ∙ sym (q .long)
