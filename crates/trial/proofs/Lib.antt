@@ -1,3 +1,6 @@
 pub mod AskedNumber
+pub mod LentFromStart
+pub mod MeterCommand
 pub mod MovedToFront
+pub mod NumbersInTurn
 pub mod Written

@@ -1,4 +1,4 @@
--- Contracts of inner functions: a number of a command, the lengths of the spaces, the four lists of `M`, what is left of the stream.
+-- Contracts of inner functions: a number of a command, the lengths of the spaces, what is left of the stream.
 use mathlib.Core.Path.{_≡_}
 use mathlib.Core.Bool.{Bool, cond, _&&_}
 use mathlib.Core.List.{List}
@@ -6,7 +6,6 @@ use Prim.Native.Nat.{ℕ, _+_, _-_, _≤_}
 use lib.Dec.{leb}
 use lib.ListN.{length, take, drop}
 use Rattle.rows.specs.Row.{twoAt}
-use Rattle.trial.specs.declared.calls.Lists.{Lists}
 use Rattle.trial.specs.declared.numbers.Number.{Number}
 
 -- The place is not the one after a bad number, the stream has both bytes, and the number is not above the most that it may be.
@@ -26,13 +25,6 @@ pub record Sized (book flow table injections branches : ℕ) : Type 0 where
   pub table-is : table ≡ 13312
   pub injections-is : injections ≡ 128
   pub branches-is : branches ≡ 1280
-
--- Each list ends where the next begins, and none is longer than 255.
-pub record Ordered (l : Lists) : Type 0 where
-  pub one : l .first ≤ l .second
-  pub two : l .second ≤ l .third
-  pub three : l .third ≤ l .fourth
-  pub few : l .fourth ≤ 1020
 
 -- What stood from a to e in the input now stands from a′ on, with more after it up to e′.
 pub record Refilled (input : List ℕ) (a e : ℕ) (input′ : List ℕ) (a′ e′ : ℕ) : Type 0 where

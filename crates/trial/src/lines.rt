@@ -1,11 +1,12 @@
 // The lines that the commands write: each is built whole, in bytes enough for its longest text and a newline, and written at once.
 // How long its text is comes back.
-ghost use mathlib.Core.List.{_++_};
+ghost use mathlib.Core.List.{[], _∷_, _++_};
 ghost use mathlib.Core.Path.{_≡_};
 ghost use Prim.Native.Nat.{_+_, _*_, _<_, _≤_};
 ghost use lib.ListN.{length};
 ghost use Rattle.line.specs.Text.{nextOf, numbersOf, signedsOf, hexesOf};
 ghost use Rattle.line.specs.AnswerText.{answerText};
+ghost use Rattle.line.specs.Inside.{Added};
 use answer::Answer;
 use line::put;
 use line::put_answer;
@@ -48,10 +49,10 @@ pub fn branches_line(numbers: &[u32]) -> usize
     end
 }
 
-// A word, a number, and bytes in hex.
+// A word, a number, and bytes in hex: with a space, 32, before the bytes and the newline, 10, the lent bytes hold them.
 pub fn hex_line(out: &mut [u8], word: &[u8], number: usize, bytes: &[u8]) -> usize
     requires { ⌜ length (now word) + 2 * length (now bytes) + 23 ≤ length (now out) ⌝ }
-    ensures { λ r. ⌜ r ≡ length (now (word .entry)) + length (nextOf number) + 1 + length (hexesOf (now (bytes .entry))) ⌝ }
+    ensures { λ r. ⌜ Added (now (word .entry) ++ (nextOf number ++ (32 ∷ (hexesOf (now (bytes .entry)) ++ (10 ∷ []))))) (now (out .entry)) 0 (now (out .exit)) (r + 1) ⌝ }
 {
     let after_word = put(out, 0, word);
     let after_number = put_next(out, after_word, number as u64);

@@ -6,15 +6,16 @@ ghost use Rattle.trial.specs.Inside.{Refilled};
 mod calls;
 mod lines;
 mod numbers;
+mod tables;
 
 use calls::run_call;
-use calls::run_write;
 use libc::STDIN_FILENO;
 use libc::STDOUT_FILENO;
 use spaces::Next;
 use spaces::set_book;
 use spaces::set_place;
 use spaces::spoil;
+use tables::run_write;
 
 // What is left of the input, moved to its front, and more after it: how many bytes there are then.
 fn refill(input: &mut [u8], at: usize, end: usize) -> usize

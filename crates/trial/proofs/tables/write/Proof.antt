@@ -1,10 +1,14 @@
--- `write` leaves the length of the book that it wrote, or the one that it had: both are within the space.
+-- `write` leaves the written book and its length, or nothing changed and the length that there was: both are within the space.
 use borrow.Author.Needs.{needs}
 use native.Mathlib.Omega.{arith}
+use Prim.Native.Nat.{_≤_}
+use lib.ListN.{length}
 use borrow.Rule.Slice.PartMut.{mid-len}
+use Rattle.answer.proofs.Refusals.{not-accepted}
+use Rattle.trial.proofs.LentFromStart.{part-lent, written-into, not-written}
 use Rattle.trial.proofs.Written.{written}
-use Rattle.trial.proofs.calls.write.Statement.{statement}
-use Rattle.trial.proofs.calls.write.Tie as tie
+use Rattle.trial.proofs.tables.write.Statement.{statement}
+use Rattle.trial.proofs.tables.write.Tie as tie
 
 sub-write-book : tie.Need-sub-write-book
 sub-write-book c = search needs
@@ -31,7 +35,10 @@ same-length : tie.Need-same-length
 same-length c = search needs
 
 returns : tie.Need-returns
-returns c = search needs
+returns c =
+    let wrote = c .before .before .before .before .before in
+    let start = wrote .before .before .before .before in
+    not-written _ (wrote .write-book .result) (part-lent (start .pre .0) (wrote .write-book .kept .1 .1 .1 .1 .1 .0)) (wrote .write-book .ensures) (not-accepted _ (c .match .keys2)) (start .pre .1)
 
 bytes-for-requires : tie.Need-bytes-for-requires
 bytes-for-requires c κs = let w = written (c .before .before .before .before .before .before .write-book .ensures) (c .enum-told .given .1) in (omega (arith, w .range .few-buses), omega (arith, w .range .few-branches))
@@ -43,8 +50,10 @@ returns-2 : tie.Need-returns-2
 returns-2 c =
     let wrote = c .before .before .before .before .before .before .before in
     let start = wrote .before .before .before .before in
-    let w = written (wrote .write-book .ensures) (c .before .enum-told .given .1) in
-    omega (arith, w .fits, mid-len 0 (start .args .room) (start .args .book .now) (start .pre .0), start .pre .0, c .bytes-for .ensures)
+    let accepted = c .before .enum-told .given .1 in
+    let w = written (wrote .write-book .ensures) accepted in
+    let room : start .args .room ≤ length (start .args .book .now) = start .pre .0 in
+    written-into _ (wrote .write-book .result) (part-lent room (wrote .write-book .kept .1 .1 .1 .1 .1 .0)) (wrote .write-book .ensures) accepted (c .bytes-for .ensures) (omega (arith, w .fits, mid-len 0 (start .args .room) (start .args .book .now) room, c .bytes-for .ensures))
 
 pub write-spec : {M : Type 1} → statement M
 write-spec =

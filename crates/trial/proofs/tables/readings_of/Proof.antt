@@ -5,8 +5,8 @@ use Prim.Native.Nat.{_-_}
 use Prim.Native.Nat.{_+_, _*_}
 use Rattle.book.proofs.Filling.{Filling, fill-start, fill-more, fill-end}
 use Rattle.spaces.specs.InsideStream.{fourAt}
-use Rattle.trial.proofs.calls.readings_of.Statement.{statement}
-use Rattle.trial.proofs.calls.readings_of.Tie as tie
+use Rattle.trial.proofs.tables.readings_of.Statement.{statement}
+use Rattle.trial.proofs.tables.readings_of.Tie as tie
 
 abbrev Inv-loop : tie.InvT-loop
 Inv-loop rest count readings₀ i₀ readings i = Filling (λ j. fourAt rest (7 + 4 * j)) count readings₀ readings i

@@ -1,0 +1,116 @@
+-- `run_meters` takes the injections from the registers of the command into the first places; a bad command changes nothing.
+use borrow.Author.Needs.{needs}
+use native.Mathlib.Omega.{arith}
+use mathlib.Core.Path.{refl}
+use lib.ListN.{length}
+use Rattle.trial.specs.InsideCalls.{ran, bad, registersIn}
+use Rattle.trial.proofs.LentFromStart.{metered-into, part-lent}
+use Rattle.trial.proofs.MeterCommand.{meters-short, meters-beyond, meters-cut, meters-fine, meters-size}
+use Rattle.trial.proofs.tables.run_meters.Statement.{statement}
+use Rattle.trial.proofs.tables.run_meters.Tie as tie
+
+returns : tie.Need-returns
+returns c =
+    let start = c .before .before in
+    (bad (meters-short (start .args .rest .now) (length (start .args .injections .now)) (c .if1 .taken)) refl refl, omega arith)
+
+lists-of-requires : tie.Need-lists-of-requires
+lists-of-requires c κs = search needs
+
+shared-slice-read-wide : tie.Need-shared-slice-read-wide
+shared-slice-read-wide c = search needs
+
+wide-requires : tie.Need-wide-requires
+wide-requires c κs = search needs
+
+mul-taken : tie.Need-mul-taken
+mul-taken c = search needs
+
+add-taken : tie.Need-add-taken
+add-taken c = search needs
+
+returns-2 : tie.Need-returns-2
+returns-2 c =
+    let whole = c .before .before .before .before .before in
+    let start = whole .before .before in
+    (bad (meters-beyond (start .args .rest .now) (length (start .args .injections .now)) (whole .if1 .left) (c .before .before .wide .ensures .0) (c .if2 .taken)) refl refl, omega arith)
+
+returns-3 : tie.Need-returns-3
+returns-3 c =
+    let held = c .before .before in
+    let lists = held .before .before .before .lists-of .ensures in
+    let start = held .before .before .before .before .before .before in
+    (bad (meters-cut (start .args .rest .now) (length (start .args .injections .now)) (held .before .before .before .before .if1 .left) (held .before .wide .ensures .0) (c .before .if2 .left) lists (c .if3 .taken)) refl refl, omega arith)
+
+shared-slice-read-wide-2 : tie.Need-shared-slice-read-wide-2
+shared-slice-read-wide-2 c = search needs
+
+wide-requires-2 : tie.Need-wide-requires-2
+wide-requires-2 c κs = search needs
+
+sub-meter : tie.Need-sub-meter
+sub-meter c = search needs
+
+part-meter-start : tie.Need-part-meter-start
+part-meter-start c = search needs
+
+part-meter-end : tie.Need-part-meter-end
+part-meter-end c = search needs
+
+meter-requires : tie.Need-meter-requires
+meter-requires c κs = search needs
+
+slice-aggregate-answer-line : tie.Need-slice-aggregate-answer-line
+slice-aggregate-answer-line c = search needs
+
+answer-line-requires : tie.Need-answer-line-requires
+answer-line-requires c κs = search needs
+
+slice-aggregate-signed-line : tie.Need-slice-aggregate-signed-line
+slice-aggregate-signed-line c = search needs
+
+signed-line-requires : tie.Need-signed-line-requires
+signed-line-requires c κs = search needs
+
+same-length : tie.Need-same-length
+same-length c = search needs
+
+returns-4 : tie.Need-returns-4
+returns-4 c =
+    let call = c .before .before .before .before .before .before in
+    let whole = call .before .before .before .before in
+    let held = whole .before .before in
+    let lists = held .before .before .before .lists-of .ensures in
+    let n = held .before .wide .ensures .0 in
+    let start = held .before .before .before .before .before .before in (
+      ran
+          (meters-fine (start .args .rest .now) (length (start .args .injections .now)) (held .before .before .before .before .if1 .left) n (whole .before .if2 .left) lists (whole .if3 .left))
+          (meters-size lists)
+          (metered-into (call .meter .result) (registersIn (start .args .rest .now)) (part-lent (whole .before .if2 .left) (call .meter .kept .1 .1 .1 .0)) n (call .before .before .wide2 .ensures .0) (call .meter .ensures)),
+      whole .if3 .left,
+    )
+
+pub run-meters-spec : {M : Type 1} → statement M
+run-meters-spec =
+    tie.close
+    (tie.spec
+    returns
+    lists-of-requires
+    shared-slice-read-wide
+    wide-requires
+    mul-taken
+    add-taken
+    returns-2
+    returns-3
+    shared-slice-read-wide-2
+    wide-requires-2
+    sub-meter
+    part-meter-start
+    part-meter-end
+    meter-requires
+    slice-aggregate-answer-line
+    answer-line-requires
+    slice-aggregate-signed-line
+    signed-line-requires
+    same-length
+    returns-4)
