@@ -37,9 +37,10 @@ pub mod trial {
     pub mod stream;
 }
 
-/// The making of trial streams: the stored one and the random ones.
+/// The making of trial streams: the stored one and the random ones; and all that the gate gives its programs.
 pub mod streams {
     pub mod damage;
+    pub mod gate;
     pub mod make;
     pub mod make_tables;
     pub mod stored;

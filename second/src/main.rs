@@ -3,7 +3,7 @@
 use second::books::{shelf, text};
 use second::definitions::{book, list};
 use second::judging::{judge, selftest, trials};
-use second::streams::{make, stored};
+use second::streams::{gate, make, stored};
 use second::trial::{fixed, reference};
 use std::fs;
 use std::io::Write;
@@ -14,6 +14,8 @@ const USAGE: &str = "second outages FILE            document 01's list for a boo
 second book TEXT FILE          makes a book file from its text form
 second text FILE               prints the text form of a book file
 second files DIR               writes DIR/books, DIR/expected and DIR/streams again
+second store CRATES            writes what the gate gives its programs and expects of them, under CRATES; not the output of `trial`
+second gate CRATES             holds those files to what this program makes, and judges the stored output of `trial`
 second stream SEED             a random trial stream, to standard output
 second stored                  the stored stream, to standard output
 second print STREAM            what document 01 fixes of the output, `?` where it leaves a choice
@@ -47,6 +49,8 @@ fn run(words: &[&str]) -> Result<bool, String> {
         ["book", from, file] => make_book(from, file)?,
         ["text", file] => print!("{}", text::print(&book::unpack(&read(file)?).map_err(|number| format!("refused {number}"))?)),
         ["files", dir] => files(Path::new(dir))?,
+        ["store", crates] => gate::files().iter().try_for_each(|(name, bytes)| write(&Path::new(crates).join(name), bytes))?,
+        ["gate", crates] => return held(crates),
         ["stream", seed] => put(&make::stream(number(seed)?))?,
         ["stored"] => put(&stored::stream())?,
         ["print", stream] => print!("{}", fixed::fixed(&read(stream)?)),
@@ -76,6 +80,17 @@ fn judged(stream: &[u8], output: &[u8]) -> Result<bool, String> {
         Err(fault) => println!("fault: {fault}"),
     }
     Ok(verdict.is_ok())
+}
+
+fn held(crates: &str) -> Result<bool, String> {
+    let stored = |name: &str| read(&format!("{crates}/{name}"));
+    for (name, bytes) in gate::files() {
+        if stored(name)? != bytes {
+            println!("{crates}/{name} isn't what this program makes");
+            return Ok(false);
+        }
+    }
+    judged(&stored(gate::TRIAL_INPUT)?, &stored(gate::TRIAL_OUTPUT)?)
 }
 
 fn make_book(from: &str, file: &str) -> Result<(), String> {

@@ -70,6 +70,18 @@ fn the_stored_stream_visits_every_refusal() {
     }
 }
 
+#[test]
+fn every_refused_call_of_the_stored_stream_is_followed_by_a_dump() {
+    let mut refused = 0;
+    output_with(&stored::stream(), &mut |done| {
+        if done.command.answer_in(done.lines).is_some_and(|number| number != 0) {
+            assert_eq!(done.next, Some(&Command::Dump), "{:?}", done.command);
+            refused += 1;
+        }
+    });
+    assert!(refused > 70, "{refused}");
+}
+
 /// After a screen another fitting flow and its table are put in place: the branches are taken in another order.
 fn other_choice(done: &mut Done, random: &mut Random) {
     let accepted = matches!(done.command, Command::Screen { .. }) && done.lines[0].starts_with("screen 0");

@@ -1,7 +1,8 @@
 //! Judges the output of a trial: by equality where document 01 fixes it, flows and reroutes by the definitions.
 //!
 //! Flows and reroutes are the other program's own choice, so the judge takes them over from a dump. For that a `D`
-//! must be the next command after each accepted `S` and `O`; a stream without it is answered as not to be judged.
+//! must be the next command after each accepted `S` and `O`; a stream without it is answered as not to be judged. Every
+//! other dump is due by equality: after a refused call it shows the spaces as they stood before the call.
 
 use crate::definitions::answer::Answer;
 use crate::definitions::cuts::Cutter;
@@ -253,15 +254,7 @@ impl Judge<'_> {
 }
 
 fn word(command: &Command) -> &'static str {
-    match command {
-        Command::Screen { .. } => "screen",
-        Command::Out { .. } => "out",
-        Command::Read { .. } => "read",
-        Command::Write { .. } => "write",
-        Command::Meters { .. } => "meters",
-        Command::Dump => "dump",
-        _ => "store",
-    }
+    command.call().unwrap_or(if *command == Command::Dump { "dump" } else { "store" })
 }
 
 fn cut(line: &str) -> String {

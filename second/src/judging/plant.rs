@@ -8,6 +8,7 @@ use crate::definitions::record::{self, SIZE};
 use crate::definitions::reroutes;
 use crate::definitions::screen;
 use crate::trial::reference::Done;
+use crate::trial::spaces::Spaces;
 use crate::trial::stream::Command;
 
 pub fn all_buses(network: &Network) -> u128 {
@@ -27,11 +28,7 @@ pub fn line_with(done: &mut Done, first: &str, change: impl FnOnce(&mut Vec<Stri
 }
 
 pub fn answer_words(done: &mut Done, change: impl FnOnce(&mut Vec<String>)) -> bool {
-    ["screen", "out", "read", "write", "meters"].iter().any(|call| done.lines.first().is_some_and(|line| line.starts_with(call)))
-        && {
-            let first = done.lines[0].split(' ').next().unwrap_or("").to_string();
-            line_with(done, &first, change)
-        }
+    done.command.call().is_some_and(|call| line_with(done, call, change))
 }
 
 pub fn refused_12(done: &mut Done, change: impl FnOnce(&mut Vec<String>)) -> bool {
@@ -184,12 +181,34 @@ pub fn shortlisted_kept(done: &mut Done, wanted: impl Fn(usize, &[u8], &[bool]) 
     })
 }
 
-pub fn refused_before_dump(done: &mut Done, plant: impl FnOnce(&mut Done)) -> bool {
-    let call = matches!(done.command, Command::Screen { .. } | Command::Out { .. });
-    let refused = call && done.lines[0].split(' ').nth(1) != Some("0");
-    if refused && done.next == Some(&Command::Dump) {
-        plant(done);
-        return true;
+/// Whether the command is this call, refused.
+pub fn refused(done: &Done, call: &str) -> bool {
+    done.command.call() == Some(call) && done.command.answer_in(done.lines).is_some_and(|number| number != 0)
+}
+
+/// What a refused call leaves otherwise than it stood, where a dump shows it.
+pub fn refused_leaves(done: &mut Done, call: &str, plant: impl FnOnce(&mut Spaces)) -> bool {
+    let shown = refused(done, call) && done.next == Some(&Command::Dump);
+    if shown {
+        plant(done.after);
     }
-    false
+    shown
+}
+
+/// What a refused call leaves and prints itself.
+pub fn refused_prints(done: &mut Done, call: &str, line: &str) -> bool {
+    refused(done, call) && line_with(done, line, |words| words.last_mut().expect("a number").push('1'))
+}
+
+/// A byte of the book space, a flow number and a table byte, each beyond most counts, written otherwise.
+pub fn book_byte(left: &mut Spaces) {
+    left.book[30] ^= 1;
+}
+
+pub fn flow_number(left: &mut Spaces) {
+    left.flow[200] ^= 1;
+}
+
+pub fn table_byte(left: &mut Spaces) {
+    left.table[13_000] ^= 1;
 }

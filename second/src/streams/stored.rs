@@ -1,5 +1,6 @@
 //! The stored stream: every refusal number 1 to 16, accepted screens, runs of outages, untrue tables, lent space too
-//! short, document 001's systems and the largest book, in one fixed order.
+//! short, document 001's systems and the largest book, in one fixed order. After every refused call all spaces that the
+//! call doesn't print itself are dumped.
 
 use crate::books::plain::plain;
 use crate::books::shelf::{largest, second_book, too_long, triangle};
@@ -18,7 +19,7 @@ fn out(branch: usize) -> Command {
 
 pub fn stream() -> Vec<u8> {
     let mut stream = Stream::new(0);
-    stream.dump_refused = usize::MAX;
+    stream.dump_each_refused = true;
     stream.add(Command::Spoil);
     marked(&mut stream);
     damaged(&mut stream);

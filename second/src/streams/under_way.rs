@@ -16,26 +16,36 @@ pub struct Stream {
     pub random: Random,
     /// Dumps are long, so a stream has only so many.
     pub dumps_left: usize,
-    /// A refused call is followed by a dump once in so many times.
+    /// A refused `S` or `O` is followed by a dump once in so many times.
     pub dump_refused: usize,
+    /// Every refused call is followed by a dump, so that what it left is seen.
+    pub dump_each_refused: bool,
 }
 
 impl Stream {
     pub fn new(seed: u64) -> Stream {
-        Stream { bytes: Vec::new(), spaces: Spaces::default(), random: Random(seed), dumps_left: 7, dump_refused: 4 }
+        Stream {
+            bytes: Vec::new(),
+            spaces: Spaces::default(),
+            random: Random(seed),
+            dumps_left: 7,
+            dump_refused: 4,
+            dump_each_refused: false,
+        }
     }
 
-    /// Adds a command; an `S` or `O` that may be accepted gets its `D`, a refused one sometimes.
+    /// Adds a command; an `S` or `O` that may be accepted gets its `D`, a refused call sometimes or always.
     pub fn add(&mut self, command: Command) {
         self.bytes.extend(stream::bytes(&command));
         let lines = reference::step(&mut self.spaces, &command);
-        if matches!(command, Command::Screen { .. } | Command::Out { .. }) {
-            // Whether a flow fits may hang on another program's choice, so an 11 here may be accepted there.
-            let may_be_accepted = ["0", "11"].contains(&lines[0].split(' ').nth(1).expect("an answer"));
-            if may_be_accepted || self.random.once_in(self.dump_refused) {
-                self.bytes.push(b'D');
-                self.dumps_left = self.dumps_left.saturating_sub(1);
-            }
+        let Some(number) = command.answer_in(&lines) else { return };
+        let with_choice = matches!(command, Command::Screen { .. } | Command::Out { .. });
+        // Whether a flow fits may hang on another program's choice, so an 11 here may be accepted there.
+        let may_be_accepted = with_choice && [0, 11].contains(&number);
+        let shown = self.dump_each_refused && number != 0;
+        if may_be_accepted || shown || with_choice && self.random.once_in(self.dump_refused) {
+            self.bytes.push(b'D');
+            self.dumps_left = self.dumps_left.saturating_sub(1);
         }
     }
 

@@ -22,6 +22,26 @@ pub enum Command {
     Dump,
 }
 
+impl Command {
+    /// The word that begins its answer; none where it makes no call.
+    pub fn call(&self) -> Option<&'static str> {
+        match self {
+            Command::Screen { .. } => Some("screen"),
+            Command::Out { .. } => Some("out"),
+            Command::Read { .. } => Some("read"),
+            Command::Write { .. } => Some("write"),
+            Command::Meters { .. } => Some("meters"),
+            _ => None,
+        }
+    }
+
+    /// The number of its answer among the lines that it printed.
+    pub fn answer_in(&self, lines: &[String]) -> Option<u32> {
+        self.call()?;
+        lines.first()?.split(' ').nth(1)?.parse().ok()
+    }
+}
+
 /// A number above what its row allows, another command byte, or an end inside a command.
 #[derive(Debug, PartialEq, Eq)]
 pub struct Bad;
