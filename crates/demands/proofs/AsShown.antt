@@ -25,10 +25,10 @@ use Rattle.state.specs.Case.{caseIn}
 use Rattle.state.specs.Call.{OverloadSaid, refuses, unfit, overloads, accepts}
 use Rattle.state.proofs.TrueRecords.{group-bytes}
 use Rattle.state.proofs.Status.{branches-of, level-of}
+use Rattle.state.proofs.OneOverload.{overloaded-same, fits-not-over}
 use Rattle.outage.specs.Promise.{TakeEnds}
 use Rattle.demands.specs.Run.{Run}
 use Rattle.demands.proofs.Ends.{number-of, never-accepted, is-accepted}
-use Rattle.demands.proofs.Unique.{overloaded-same, fits-not-over}
 use Rattle.demands.proofs.Demand3.{run-true, run-posed, run-fits, call-checked, posed-out}
 
 -- The group bytes of a record.

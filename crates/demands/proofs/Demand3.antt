@@ -27,12 +27,12 @@ use Rattle.state.specs.Call as call
 use Rattle.state.specs.Call.{OverloadSaid}
 use Rattle.state.proofs.Checked.{passing, posed-book}
 use Rattle.state.proofs.Status.{branches-of, level-of, restates}
+use Rattle.state.proofs.OneOverload.{overloaded-same, fits-not-over}
 use Rattle.screen.specs.Promise.{screenCheck, ScreenEnds, refuses, overloads, accepts}
 use Rattle.outage.specs.Promise.{Touched, Confined, takeCheck, TakeEnds}
 use Rattle.outage.proofs.Checking.{taking}
 use Rattle.demands.specs.Run.{Run, screened, taken}
 use Rattle.demands.proofs.Ends.{done, number-of, take-done, is-accepted}
-use Rattle.demands.proofs.Unique.{overloaded-same, fits-not-over}
 use Rattle.demands.proofs.Calls.{call-true}
 
 -- ---- What stands after a run: an accepted book, and a table true of its case and of the flow.

@@ -1,25 +1,22 @@
 -- Any two results that the promise of `screen` allows have the same answer and leave the same lent memory, but for the flow numbers of branches in service
 -- and, in the records of carrying branches that have a flow, the reroute bits of other branches in service.
-use mathlib.Core.Path.{_≡_, refl, sym, ap, _∙_, subst}
+use mathlib.Core.Path.{_≡_, refl, sym, ap, _∙_}
 use mathlib.Core.Bool.{Bool, true, false}
 use mathlib.Core.List.{List}
 use Prim.Native.Nat.{ℕ, _<_}
 use native.Mathlib.Omega.{arith}
 use lib.IntN.{ℤ}
 use Rattle.rows.specs.Row.{nth}
-use Rattle.rows.specs.Bit.{has}
 use Rattle.rows.proofs.Sum.{side, below, equal, above}
-use Rattle.answer.specs.Answer.{Said, accepted}
+use Rattle.answer.specs.Answer.{accepted}
 use Rattle.answer.specs.declared.Answer.{Answer}
-use Rattle.verdict.specs.Case.{Case, Posed, on, Fits}
+use Rattle.verdict.specs.Case.{Case, on, Fits}
 use Rattle.verdict.specs.Record.{recordAt, names, TrueRecord}
 use Rattle.verdict.specs.Update.{Lent, Beyond}
-use Rattle.verdict.proofs.Fitting.{fits-none}
-use Rattle.verdict.proofs.Loss.{never-overload}
-use Rattle.verdict.proofs.VerdictByCase.{same-names, same-record, largest-unique, first-twenty}
+use Rattle.verdict.proofs.VerdictByCase.{same-record, first-twenty}
 use Rattle.verdict.proofs.Named.{names-only}
 use Rattle.state.specs.Case.{caseIn}
-use Rattle.state.specs.Call.{OverloadSaid}
+use Rattle.state.proofs.OneOverload.{overloaded-same, fits-not-over}
 use Rattle.state.proofs.Checked.{passed, posed-book}
 use Rattle.screen.specs.Promise.{ScreenEnds, refuses, overloads, accepts}
 use Rattle.demands.specs.Same.{FreeFlow, FreeBit, Alike, SameResult}
@@ -65,17 +62,6 @@ module _ (C : Case) (written : ℕ → Type 0) (one two : Lent) (k : ℕ) where
 pub still-same : (C : Case) (f g : ℕ → ℤ) → Fits C (C .limit) f → Fits C (C .limit) g → (j : ℕ) → j < C .branches → (s : Bool) → C .served j ≡ s → (C .served j ≡ true → f j ≡ g j) → f j ≡ g j
 still-same C f g a b j l true e h = h e
 still-same C f g a b j l false e h = a .still j l e ∙ sym (b .still j l e)
-
--- ---- Answers.
-pub overloaded-same : (C : Case) (r s : Answer) → OverloadSaid C r → OverloadSaid C s → r ≡ s
-overloaded-same C r s o p =
-    let u = largest-unique (o .overload) (p .overload) in
-    let g = same-names (o .group) (p .group) (o .long ∙ sym (p .long)) (o .bytes) (p .bytes) (u .1) in
-    said-same (o .answer) (subst (λ (v : ℕ). Said s 12 v (o .group)) (sym (u .0)) (subst (λ (b : List ℕ). Said s 12 (p .shortage) b) (sym g) (p .answer)))
-
--- A case with a fitting flow is not overloaded.
-pub fits-not-over : (C : Case) (f : ℕ → ℤ) (r : Answer) → Posed C → Fits C (C .limit) f → OverloadSaid C r → ⊥
-fits-not-over C f r p h o = never-overload C (o .shortage) (has (o .group)) (fits-none C f p h) (o .overload)
 
 -- ---- What is left.
 pub beyond-same : (C : Case) {before one two : Lent} → Beyond C before one → Beyond C before two → Beyond C two one

@@ -24,12 +24,13 @@ use Rattle.verdict.proofs.Updates.{shortlisted?}
 use Rattle.state.specs.Case.{caseIn}
 use Rattle.state.specs.Call.{Ends, refuses, unfit, overloads, accepts}
 use Rattle.state.proofs.Checked.{posed-book}
+use Rattle.state.proofs.OneOverload.{overloaded-same, fits-not-over}
 use Rattle.outage.specs.Promise.{Touched, Confined, takeNumbers, TakenOut, TakeEnds, Judges, TakeCounted}
 use Rattle.outage.specs.declared.Taken.{Taken}
 use Rattle.outage.proofs.Checking.{takeable, take-gives}
 use Rattle.demands.specs.Same.{FreeTaken, FreeBit, Alike, SameResult}
 use Rattle.demands.proofs.Ends.{take-done, is-accepted, never-accepted, over-not, refused-not}
-use Rattle.demands.proofs.Unique.{equal-alike, true-alike, still-same, overloaded-same, fits-not-over, beyond-same, kept-same, flows-below, Each}
+use Rattle.demands.proofs.Unique.{equal-alike, true-alike, still-same, beyond-same, kept-same, flows-below, Each}
 use Rattle.demands.proofs.Calls.{touched?, call-true}
 
 -- ---- Any call: two tables renewed from the same one have the same records where the lists agree.

@@ -36,6 +36,7 @@ use Rattle.state.specs.Call as call
 use Rattle.state.specs.Call.{lent, OverloadSaid}
 use Rattle.state.proofs.Opening.{posed}
 use Rattle.state.proofs.Checked.{passing}
+use Rattle.state.proofs.OneOverload.{overloaded-same, fits-not-over}
 use Rattle.screen.specs.Promise.{screenCheck, Screened, ScreenEnds, refuses, overloads, accepts}
 use Rattle.outage.specs.Promise.{takeCheck, TakenOut, TakeEnds}
 use Rattle.meters.specs.Registers.{buses, injection, tooFar, answerTo}
@@ -43,7 +44,6 @@ use Rattle.demands.specs.Run.{Run, taken}
 use Rattle.demands.proofs.Ends.{is-accepted}
 use Rattle.demands.proofs.Calls.{call-true}
 use Rattle.demands.proofs.Demand3.{run-true, run-posed, run-fits, call-checked}
-use Rattle.demands.proofs.Unique.{overloaded-same, fits-not-over}
 use Rattle.examples.specs.Row as row
 use Rattle.examples.specs.Row.{Sight, groupBytes, sightBytes, Row, shows, takes, keeps, meters, Shows, Refuses, Takes, Holds}
 use Rattle.examples.specs.Table.{triangle, markedRows}

@@ -1,23 +1,20 @@
 -- Any two printed lists of a book are one list: the same answer, the same bytes, the same length.
-use mathlib.Core.Path.{_≡_, refl, sym, ap, _∙_, subst}
+use mathlib.Core.Path.{_≡_, refl, sym, ap, _∙_}
 use mathlib.Core.List.{List, _++_}
 use Prim.Native.Nat.{ℕ, _≤_, _<_}
 use lib.ListN.{length}
-use Rattle.rows.specs.Bit.{has}
 use Rattle.answer.specs.declared.Answer.{Answer}
 use Rattle.answer.specs.declared.Outcome.the-variants.{Accepted}
-use Rattle.answer.specs.Answer.{Said, settled}
+use Rattle.answer.specs.Answer.{settled}
 use Rattle.answer.proofs.Said.{said-same}
 use Rattle.layout.specs.Layout.{branchesIn}
 use Rattle.verdict.specs.Case.{Case, on}
 use Rattle.verdict.specs.Record.{recordAt, TrueTable}
 use Rattle.verdict.specs.Update.{Lent}
-use Rattle.verdict.proofs.Fitting.{fits-none}
-use Rattle.verdict.proofs.Loss.{never-overload}
-use Rattle.verdict.proofs.VerdictByCase.{largest-unique, same-names}
 use Rattle.state.specs.Case.{caseIn}
 use Rattle.state.specs.Call.{OverloadSaid}
 use Rattle.state.proofs.Checked.{passed, posed-book}
+use Rattle.state.proofs.OneOverload.{overloaded-same, fits-not-over}
 use Rattle.state.proofs.Status.{branches-of}
 use Rattle.screen.specs.Promise.{Screened, screenCheck, ScreenEnds, refuses, overloads, accepts}
 use Rattle.line.specs.Text.{decimalOf, joined}
@@ -26,12 +23,6 @@ use Rattle.printing.specs.Lines.{headText, refusedText}
 use Rattle.printing.specs.List.{lineOf, acceptedText, listText, Printed}
 use Rattle.printing.specs.declared.Printout.{Printout}
 use Rattle.printing.proofs.ShownOfCase.{shows-same}
-
-over-same : (C : Case) {r s : Answer} → OverloadSaid C r → OverloadSaid C s → r ≡ s
-over-same C {r} {s} o p =
-    let u = largest-unique (o .overload) (p .overload) in
-    let g = same-names (o .group) (p .group) (o .long ∙ sym (p .long)) (o .bytes) (p .bytes) (u .1) in
-    said-same (o .answer) (subst (λ (v : ℕ). Said s 12 v (o .group)) (sym (u .0)) (subst (λ (b : List ℕ). Said s 12 (p .shortage) b) (sym g) (p .answer)))
 
 accepted-same : (bs : List ℕ) {before one two : Lent} → caseIn bs .buses ≤ 128 → Screened (caseIn bs) before one → Screened (caseIn bs) before two
     → acceptedText bs (one .table) ≡ acceptedText bs (two .table)
@@ -54,8 +45,7 @@ kept-list bs {before} {one} {two} {r} {s} e a b = record {
 }
 
 not-over : {before after : Lent} {t : Answer} → screenCheck before ≡ Accepted → Screened (caseIn (before .book)) before after → OverloadSaid (caseIn (before .book)) t → ⊥
-not-over {before} {after} c x o =
-    never-overload (caseIn (before .book)) (o .shortage) (has (o .group)) (fits-none (caseIn (before .book)) (on (after .flow)) (posed-book (before .book) (passed _ _ _ c .book)) (x .table-true .fits)) (o .overload)
+not-over {before} {after} c x o = fits-not-over (caseIn (before .book)) (on (after .flow)) _ (posed-book (before .book) (passed _ _ _ c .book)) (x .table-true .fits) o
 
 module _ {before one two : Lent} {r s : Answer} where
   pub lists-same : ScreenEnds before one r → ScreenEnds before two s → SameList (before .book) one two r s
@@ -63,7 +53,7 @@ module _ {before one two : Lent} {r s : Answer} where
   lists-same (refuses n a k) (overloads c o k′) = absurd (n c)
   lists-same (refuses n a k) (accepts c a′ x) = absurd (n c)
   lists-same (overloads c o k) (refuses n a k′) = absurd (n c)
-  lists-same (overloads c o k) (overloads c′ o′ k′) = kept-list (before .book) (over-same (caseIn (before .book)) o o′) k k′
+  lists-same (overloads c o k) (overloads c′ o′ k′) = kept-list (before .book) (overloaded-same (caseIn (before .book)) r s o o′) k k′
   lists-same (overloads c o k) (accepts c′ a x) = absurd (not-over c x o)
   lists-same (accepts c a x) (refuses n a′ k) = absurd (n c)
   lists-same (accepts c a x) (overloads c′ o k) = absurd (not-over c x o)

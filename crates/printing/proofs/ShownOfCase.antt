@@ -1,6 +1,6 @@
 -- What a true record shows follows from the case alone: out, carries, or short with the shortage and group of any that is the largest and smallest.
 use mathlib.Core.Path.{_≡_, refl, sym, ap, _∙_}
-use mathlib.Core.Bool.{Bool, true, false, true≢false}
+use mathlib.Core.Bool.{Bool, true, false}
 use mathlib.Core.List.{List, _++_}
 use Prim.Native.Nat.{ℕ, _≤_}
 use native.Mathlib.Omega.{arith}
@@ -12,15 +12,12 @@ use Rattle.verdict.specs.Case.{Case}
 use Rattle.verdict.specs.Excess.{Largest, Short, Carries}
 use Rattle.verdict.specs.Record.{verdictIn, shortageIn, groupIn, Told, is-out, carries, short}
 use Rattle.verdict.proofs.Loss.{never-both}
-use Rattle.verdict.proofs.VerdictByCase.{largest-unique}
+use Rattle.verdict.proofs.VerdictByCase.{clash, largest-unique}
 use Rattle.rows.specs.Bit.{has}
 use Rattle.line.specs.Text.{nextOf}
 use Rattle.line.specs.AnswerText.{membersText}
 use Rattle.line.proofs.Members.{members-same}
 use Rattle.printing.specs.Lines.{outWord, carriesWord, shortWord, shortText, shownText}
-
-clash : {X : Type 0} {t : Bool} → t ≡ true → t ≡ false → X
-clash p q = absurd (true≢false (sym p ∙ q))
 
 -- Shortage and members, the members counted over the n buses that there are.
 abbrev pub shortOver : ℕ → ℕ → Group → List ℕ

@@ -5,5 +5,6 @@ pub mod Opening
 pub mod Base
 pub mod Lending
 pub mod Status
+pub mod OneOverload
 pub mod Checked
 pub mod ProperAnswer

@@ -22,7 +22,7 @@ use Rattle.verdict.specs.Excess.{Largest, Overload, Short}
 use Rattle.verdict.specs.Record.{recordAt, verdictIn, shortageIn, groupIn, names, Told, is-out, carries, short, TrueRecord, TrueTable}
 use Rattle.verdict.proofs.Loss.{never-both}
 
-clash : {X : Type 0} {t : Bool} → t ≡ true → t ≡ false → X
+pub clash : {X : Type 0} {t : Bool} → t ≡ true → t ≡ false → X
 clash p q = absurd (true≢false (sym p ∙ q))
 
 -- ---- Bytes from what they name.
