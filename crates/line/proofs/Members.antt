@@ -1,11 +1,11 @@
 -- The text of a group's members is that of the group: how it is stored, and which numbers past its last bus are looked at, are all the same.
 use mathlib.Core.Path.{_≡_, refl, sym, ap, _∙_}
-use mathlib.Core.Bool.{Bool, true, false, cond}
-use mathlib.Core.List.{List, [], _++_}
-use Prim.Native.Nat.{ℕ, zero, suc, _+_, _-_, _<_, _≤_}
+use mathlib.Core.Bool.{Bool, false, cond}
+use mathlib.Core.List.{[]}
+use Prim.Native.Nat.{ℕ, zero, suc, _+_, _-_, _≤_}
 use native.Mathlib.Omega.{arith}
 use native.Mathlib.Nat.{add-zero, add-suc}
-use Rattle.rows.specs.Sum.{Group, pick, over}
+use Rattle.rows.specs.Sum.{Group, over}
 use Rattle.listing.specs.Members.{size}
 use Rattle.line.specs.Text.{nextOf, joined}
 use Rattle.line.specs.AnswerText.{membersText}

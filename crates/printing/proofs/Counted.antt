@@ -41,7 +41,8 @@ module _ (bs table : List ℕ) where
     so-far = rw (joined-none (λ j. lineOf (branchText table j)), append-nil (lineOf (headText bs))) (h .whole);
   }
 
-  pub printing-more : {long k r : ℕ} → Printing bs table long k → k < branchesIn bs → Handed (branchText table k) 2757 r → Printing bs table (long + r) (k + 1)
+  pub printing-more : {long k r : ℕ} → Printing bs table long k → k < branchesIn bs → Handed (branchText table k) 2757 r
+      → Printing bs table (long + r) (k + 1)
   printing-more {long} {k} {r} p u h =
       let f : (ℕ → List ℕ) = λ j. lineOf (branchText table j) in
       record {
@@ -63,7 +64,11 @@ module _ {bs : List ℕ} {after : Lent} {r : Answer} (ends : ScreenEnds (lent bs
   listable e = let d = accepted-screen ends e in record { branches-few = d .passes .flow-room; table-long = d .screened .beyond .table-long }
 
   pub printed-refused : (r .outcome ≡ Accepted → ⊥) → {n : ℕ} → Handed (refusedText r) 2759 n → Printed bs (record { answer = r; length = n })
-  printed-refused not h = record { after = after; ends = ends; long = h .whole ∙ ap length (sym (leaves (r .outcome) (lineOf (refusedText r)) (acceptedText bs (after .table)) not)) }
+  printed-refused not h = record {
+    after = after;
+    ends = ends;
+    long = h .whole ∙ ap length (sym (leaves (r .outcome) (lineOf (refusedText r)) (acceptedText bs (after .table)) not));
+  }
 
   pub printed-accepted : r .outcome ≡ Accepted → {n : ℕ} → n ≡ length (acceptedText bs (after .table)) → Printed bs (record { answer = r; length = n })
   printed-accepted e h = record {

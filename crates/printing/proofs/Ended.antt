@@ -1,29 +1,43 @@
--- A screen whose answer is accepted passed its check and left a true table.
+-- A screen whose answer is accepted passed its check and left a true table, and a book with such a table has no base excess.
 use mathlib.Core.Path.{_≡_, refl, sym, ap, _∙_}
 use Prim.Native.Nat.{ℕ}
 use native.Mathlib.Omega.{arith}
 use lib.ListN.{length}
 use Rattle.rows.specs.Row.{member}
+use Rattle.rows.specs.Sum.{Group}
 use Rattle.answer.specs.declared.Answer.{Answer}
 use Rattle.answer.specs.declared.Outcome.{Outcome}
 use Rattle.answer.specs.declared.Outcome.the-variants.{Accepted}
 use Rattle.answer.specs.Answer.{numberOf}
 use Rattle.answer.proofs.Numbers.{said-is}
+use Rattle.verdict.specs.Case.{on}
+use Rattle.verdict.specs.Excess.{Overload}
 use Rattle.verdict.specs.Update.{Lent}
+use Rattle.verdict.proofs.Fitting.{fits-none}
+use Rattle.verdict.proofs.Loss.{never-overload}
 use Rattle.state.specs.Case.{caseIn}
 use Rattle.state.specs.Call.{lentNumbers}
-use Rattle.state.proofs.Checked.{Passed, passed, lent-gives}
+use Rattle.state.proofs.Checked.{Passed, passed, posed-book, lent-gives}
 use Rattle.screen.specs.Promise.{Screened, screenCheck, ScreenEnds, refuses, overloads, accepts}
 
 pub record Done (before after : Lent) : Type 0 where
   pub passes : Passed (before .book) (length (before .flow)) (length (before .table))
   pub screened : Screened (caseIn (before .book)) before after
 
+-- A flow that fits was left, so no group is overloaded.
+pub never-over : {before after : Lent} → screenCheck before ≡ Accepted → Screened (caseIn (before .book)) before after
+    → (v : ℕ) (S : Group) → Overload (caseIn (before .book)) v S → ⊥
+never-over {before} {after} c x v S o =
+    let posed = posed-book (before .book) (passed _ _ _ c .book) in
+    never-overload (caseIn (before .book)) v S (fits-none (caseIn (before .book)) (on (after .flow)) posed (x .table-true .fits)) o
+
 pub number-zero : {o : Outcome} → o ≡ Accepted → numberOf o ≡ 0
 number-zero e = ap numberOf e
 
 pub accepted-screen : {before after : Lent} {r : Answer} → ScreenEnds before after r → r .outcome ≡ Accepted → Done before after
 unfolding member
-accepted-screen {before} (refuses n a k) e = absurd (n (sym (ap (λ (x : Answer). x .outcome) (said-is lentNumbers (screenCheck before) refl refl (lent-gives _ _ _) a)) ∙ e))
+accepted-screen {before} (refuses n a k) e =
+    let is = said-is lentNumbers (screenCheck before) refl refl (lent-gives _ _ _) a in
+    absurd (n (sym (ap (λ (x : Answer). x .outcome) is) ∙ e))
 accepted-screen (overloads c o k) e = absurd (omega (arith, o .answer .number-is, number-zero e))
 accepted-screen (accepts c a s) e = record { passes = passed _ _ _ c; screened = s }

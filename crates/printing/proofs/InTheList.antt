@@ -1,20 +1,18 @@
 -- Each line of the printed list in document 01's words, over the case of the book: `out`, `carries`, or `short` with the shortage and the group of
 -- demand 2, whose members are counted over the book's own buses; and the one line of a refused book.
 use mathlib.Core.Path.{_≡_, refl, sym, ap, _∙_}
-use mathlib.Core.Bool.{Bool, true, false}
-use mathlib.Core.List.{List, [], _∷_, _++_, append-nil}
+use mathlib.Core.Bool.{true, false}
+use mathlib.Core.List.{List, [], _++_, append-nil}
 use Prim.Native.Nat.{ℕ, suc, _≤_, _<_}
 use native.Mathlib.Omega.{arith}
 use lib.Dec.{eqb}
 use lib.IntN.{ℤ}
-use lib.ListN.{take, drop}
-use borrow.Author.Tests.{eq-eqb, ne-eqb}
 use Rattle.rows.specs.Row.{member}
 use Rattle.rows.specs.Sum.{Group}
 use Rattle.answer.specs.declared.Answer.{Answer}
 use Rattle.answer.specs.declared.Outcome.{Outcome}
 use Rattle.answer.specs.declared.Outcome.the-variants.{Accepted}
-use Rattle.answer.specs.Answer.{numberOf, shortageOf, noGroup, Said, settled}
+use Rattle.answer.specs.Answer.{numberOf, noGroup, Said, settled}
 use Rattle.answer.proofs.Numbers.{gives-not}
 use Rattle.answer.proofs.Refusals.{leaves}
 use Rattle.layout.specs.Layout.{busesIn, branchesIn}
@@ -23,8 +21,6 @@ use Rattle.verdict.specs.Case.{Case, on}
 use Rattle.verdict.specs.Excess.{Overload, Short, Carries}
 use Rattle.verdict.specs.Record.{recordAt, verdictIn, shortageIn, Told}
 use Rattle.verdict.specs.Update.{Lent}
-use Rattle.verdict.proofs.Fitting.{fits-none}
-use Rattle.verdict.proofs.Loss.{never-overload}
 use Rattle.state.specs.Case.{caseOf, caseIn}
 use Rattle.state.specs.Call.{lent, lentNumbers, OverloadSaid}
 use Rattle.state.proofs.Checked.{passed, passing, posed-book, lent-gives}
@@ -33,10 +29,10 @@ use Rattle.screen.specs.Promise.{screenCheck, ScreenEnds, refuses, overloads, a
 use Rattle.line.specs.Text.{decimalOf, nextOf, joined}
 use Rattle.line.specs.AnswerText.{membersText}
 use Rattle.line.proofs.Plain.{Plain, plain-then, plain-cond, plain-decimal, plain-next, plain-members}
-use Rattle.printing.specs.Lines.{headText, outWord, carriesWord, shortWord, refusedWord, shownText, branchText, reasonText, refusedText}
+use Rattle.printing.specs.Lines.{headText, outWord, carriesWord, shortWord, refusedWord, shownText, branchText, refusedText}
 use Rattle.printing.specs.List.{lineOf, lineAt, acceptedText, listText}
-use Rattle.printing.proofs.Texts.{reason-twelve, reason-other}
-use Rattle.printing.proofs.Ended.{number-zero, accepted-screen}
+use Rattle.printing.proofs.Texts.{reason-other}
+use Rattle.printing.proofs.Ended.{never-over, number-zero, accepted-screen}
 use Rattle.printing.proofs.ShownOfCase.{shortOver, short-over, shows-out, shows-carries, shows-short}
 use Rattle.printing.proofs.LinesApart.{first-line, next-line, line-of-joined}
 
@@ -112,9 +108,11 @@ module _ {bs : List ℕ} {flow : List ℤ} {table : List ℕ} {after : Lent} {r 
 said-number-only : {r : Answer} {n : ℕ} → Said r n 0 noGroup → (n ≡ 12 → ⊥) → refusedText r ≡ refusedWord ++ nextOf n
 said-number-only {r} {n} s h = ap (λ (t : List ℕ). refusedWord ++ t) (sym (reason-other r (sym (s .number-is)) h))
 
-over-said : (C : Case) → C .buses ≤ 128 → {r : Answer} → OverloadSaid C r → (v : ℕ) (S : Group) → Overload C v S → refusedText r ≡ refusedWord ++ (nextOf 12 ++ shortOver (C .buses) v S)
+over-said : (C : Case) → C .buses ≤ 128 → {r : Answer} → OverloadSaid C r → (v : ℕ) (S : Group) → Overload C v S
+    → refusedText r ≡ refusedWord ++ (nextOf 12 ++ shortOver (C .buses) v S)
 over-said C few {r} o v S s =
-    rw (o .answer .number-is, o .answer .shortage-is, o .answer .group-is) (ap (λ (t : List ℕ). refusedWord ++ (nextOf 12 ++ t)) (short-over (o .group) few s (o .overload)))
+    rw (o .answer .number-is, o .answer .shortage-is, o .answer .group-is)
+    (ap (λ (t : List ℕ). refusedWord ++ (nextOf 12 ++ t)) (short-over (o .group) few s (o .overload)))
 
 module _ {bs : List ℕ} {flow : List ℤ} {table : List ℕ} {after : Lent} {r : Answer} where
   -- By its check: the number alone.
@@ -128,12 +126,12 @@ module _ {bs : List ℕ} {flow : List ℤ} {table : List ℕ} {after : Lent} {r 
   refused-line (accepts c a s) h = absurd (h c)
 
   -- By its base excess: 12, then any v and S that the case has, as in the line of a short branch.
-  pub overload-line : ScreenEnds (lent bs flow table) after r → screenCheck (lent bs flow table) ≡ Accepted → (v : ℕ) (S : Group) → Overload (caseIn bs) v S
+  pub overload-line : ScreenEnds (lent bs flow table) after r → screenCheck (lent bs flow table) ≡ Accepted
+      → (v : ℕ) (S : Group) → Overload (caseIn bs) v S
       → listText bs r (after .table) ≡ lineOf (refusedWord ++ (nextOf 12 ++ (nextOf v ++ membersText (busesIn bs) S)))
   overload-line (refuses n a k) c v S s = absurd (n c)
   overload-line (overloads c o k) c′ v S s =
       leaves (r .outcome) _ _ (λ e. absurd (omega (arith, o .answer .number-is, number-zero e)))
       ∙ ap lineOf (over-said (caseIn bs) (posed-book bs (passed _ _ _ c .book) .few-buses) o v S s)
       ∙ ap (λ (n : ℕ). lineOf (refusedWord ++ (nextOf 12 ++ shortOver n v S))) (case-buses bs)
-  overload-line (accepts c a x) c′ v S s =
-      absurd (never-overload (caseIn bs) v S (fits-none (caseIn bs) (on (after .flow)) (posed-book bs (passed _ _ _ c .book)) (x .table-true .fits)) s)
+  overload-line (accepts c a x) c′ v S s = absurd (never-over c x v S s)

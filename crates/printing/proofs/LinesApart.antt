@@ -42,5 +42,6 @@ module _ (g : ℕ → List ℕ) (plain : (k : ℕ) → Plain (g k)) where
           ∙ first-line (g n) rest (plain n)
           ∙ ap g (sym e)
 
-      go : (k < n → lineAt k (joined n (λ k. lineOf (g k)) ++ (lineOf (g n) ++ rest)) ≡ g k) → lineAt k (joined n (λ k. lineOf (g k)) ++ (lineOf (g n) ++ rest)) ≡ g k
+      go : (k < n → lineAt k (joined n (λ k. lineOf (g k)) ++ (lineOf (g n) ++ rest)) ≡ g k)
+          → lineAt k (joined n (λ k. lineOf (g k)) ++ (lineOf (g n) ++ rest)) ≡ g k
       go early = elim (side k n) [ below u ↦ early u | equal u ↦ last u | above u ↦ absurd (omega arith) ]

@@ -1,27 +1,26 @@
 -- Any two printed lists of a book are one list: the same answer, the same bytes, the same length.
-use mathlib.Core.Path.{_≡_, refl, sym, ap, _∙_}
+use mathlib.Core.Path.{_≡_, sym, ap, _∙_}
 use mathlib.Core.List.{List, _++_}
-use Prim.Native.Nat.{ℕ, _≤_, _<_}
+use Prim.Native.Nat.{_≤_, _<_}
 use lib.ListN.{length}
+use Rattle.rows.specs.Bit.{has}
 use Rattle.answer.specs.declared.Answer.{Answer}
-use Rattle.answer.specs.declared.Outcome.the-variants.{Accepted}
 use Rattle.answer.specs.Answer.{settled}
 use Rattle.answer.proofs.Said.{said-same}
 use Rattle.layout.specs.Layout.{branchesIn}
-use Rattle.verdict.specs.Case.{Case, on}
-use Rattle.verdict.specs.Record.{recordAt, TrueTable}
+use Rattle.verdict.specs.Record.{recordAt}
 use Rattle.verdict.specs.Update.{Lent}
 use Rattle.state.specs.Case.{caseIn}
-use Rattle.state.specs.Call.{OverloadSaid}
 use Rattle.state.proofs.Checked.{passed, posed-book}
-use Rattle.state.proofs.OneOverload.{overloaded-same, fits-not-over}
+use Rattle.state.proofs.OneOverload.{overloaded-same}
 use Rattle.state.proofs.Status.{branches-of}
-use Rattle.screen.specs.Promise.{Screened, screenCheck, ScreenEnds, refuses, overloads, accepts}
-use Rattle.line.specs.Text.{decimalOf, joined}
+use Rattle.screen.specs.Promise.{Screened, ScreenEnds, refuses, overloads, accepts}
+use Rattle.line.specs.Text.{decimalOf}
 use Rattle.line.proofs.Joined.{joined-same}
 use Rattle.printing.specs.Lines.{headText, refusedText}
 use Rattle.printing.specs.List.{lineOf, acceptedText, listText, Printed}
 use Rattle.printing.specs.declared.Printout.{Printout}
+use Rattle.printing.proofs.Ended.{never-over}
 use Rattle.printing.proofs.ShownOfCase.{shows-same}
 
 accepted-same : (bs : List ℕ) {before one two : Lent} → caseIn bs .buses ≤ 128 → Screened (caseIn bs) before one → Screened (caseIn bs) before two
@@ -31,7 +30,8 @@ accepted-same bs {one = one} {two} few x y =
     (joined-same (branchesIn bs) _ _ (λ k l.
     let u : k < caseIn bs .branches = rw (branches-of bs) l in
     ap (λ (t : List ℕ). lineOf (decimalOf k ++ t))
-    (shows-same (caseIn bs) few k (recordAt (one .table) k) (recordAt (two .table) k) _ _ (x .table-true .each k u .told) (y .table-true .each k u .told))))
+    (shows-same (caseIn bs) few k (recordAt (one .table) k) (recordAt (two .table) k) _ _
+    (x .table-true .each k u .told) (y .table-true .each k u .told))))
 
 -- Two results of a screen of one book, with the same lent: the answers, and with them the lists.
 pub record SameList (bs : List ℕ) (one two : Lent) (r s : Answer) : Type 0 where
@@ -44,9 +44,6 @@ kept-list bs {before} {one} {two} {r} {s} e a b = record {
   texts = ap (λ (x : Answer). listText bs x (one .table)) e ∙ ap (λ (l : Lent). listText bs s (l .table)) (a ∙ sym b);
 }
 
-not-over : {before after : Lent} {t : Answer} → screenCheck before ≡ Accepted → Screened (caseIn (before .book)) before after → OverloadSaid (caseIn (before .book)) t → ⊥
-not-over {before} {after} c x o = fits-not-over (caseIn (before .book)) (on (after .flow)) _ (posed-book (before .book) (passed _ _ _ c .book)) (x .table-true .fits) o
-
 module _ {before one two : Lent} {r s : Answer} where
   pub lists-same : ScreenEnds before one r → ScreenEnds before two s → SameList (before .book) one two r s
   lists-same (refuses n a k) (refuses n′ a′ k′) = kept-list (before .book) (said-same a a′) k k′
@@ -54,13 +51,16 @@ module _ {before one two : Lent} {r s : Answer} where
   lists-same (refuses n a k) (accepts c a′ x) = absurd (n c)
   lists-same (overloads c o k) (refuses n a k′) = absurd (n c)
   lists-same (overloads c o k) (overloads c′ o′ k′) = kept-list (before .book) (overloaded-same (caseIn (before .book)) r s o o′) k k′
-  lists-same (overloads c o k) (accepts c′ a x) = absurd (not-over c x o)
+  lists-same (overloads c o k) (accepts c′ a x) = absurd (never-over c x (o .shortage) (has (o .group)) (o .overload))
   lists-same (accepts c a x) (refuses n a′ k) = absurd (n c)
-  lists-same (accepts c a x) (overloads c′ o k) = absurd (not-over c x o)
+  lists-same (accepts c a x) (overloads c′ o k) = absurd (never-over c x (o .shortage) (has (o .group)) (o .overload))
   lists-same (accepts c a x) (accepts c′ a′ y) =
       let e = said-same a a′ in
       let t = accepted-same (before .book) (posed-book (before .book) (passed _ _ _ c .book) .few-buses) x y in
-      record { answers = e; texts = ap (λ (q : Answer). listText (before .book) q (one .table)) e ∙ ap (λ (l : List ℕ). settled (s .outcome) (lineOf (refusedText s)) l) t }
+      record {
+        answers = e;
+        texts = ap (λ (q : Answer). listText (before .book) q (one .table)) e ∙ ap (λ (l : List ℕ). settled (s .outcome) (lineOf (refusedText s)) l) t;
+      }
 
 module _ {bs : List ℕ} {r s : Printout} (p : Printed bs r) (q : Printed bs s) where
   pub one-answer : r .answer ≡ s .answer

@@ -3,8 +3,7 @@ use mathlib.Core.Path.{_≡_, refl, sym, ap, _∙_}
 use mathlib.Core.Bool.{Bool, true, false}
 use mathlib.Core.List.{List, _++_}
 use Prim.Native.Nat.{ℕ, _≤_}
-use native.Mathlib.Omega.{arith}
-use borrow.Author.Tests.{eq-eqb, ne-eqb}
+use borrow.Author.Tests.{eq-eqb}
 use lib.IntN.{ℤ}
 use lib.ListN.{take, drop}
 use Rattle.rows.specs.Sum.{Group}
@@ -42,7 +41,8 @@ module _ (C : Case) (few : C .buses ≤ 128) (k : ℕ) (rec : List ℕ) where
   shows-carries f (carries i c′ v z m) h c = rw v refl
   shows-carries f (short i s v z) h c = absurd (never-both C k (shortageIn rec) (groupIn rec) c s)
 
-  pub shows-short : (f : ℕ → ℤ) → Told C f k rec → C .served k ≡ true → (v : ℕ) (S : Group) → Short C k v S → shownText rec ≡ shortWord ++ shortOver (C .buses) v S
+  pub shows-short : (f : ℕ → ℤ) → Told C f k rec → C .served k ≡ true → (v : ℕ) (S : Group) → Short C k v S
+      → shownText rec ≡ shortWord ++ shortOver (C .buses) v S
   shows-short f (is-out i v′ z) h v S s = clash h i
   shows-short f (carries i c v′ z m) h v S s = absurd (never-both C k v S c s)
   shows-short f (short i s′ v′ z) h v S s = rw v′ (ap (λ (t : List ℕ). shortWord ++ t) (short-over (take 16 (drop 4 rec)) few s s′))

@@ -34,7 +34,10 @@ shortText shortage group = nextOf shortage ++ groupText group
 
 -- What a record shows: verdict 0 is out, 1 carries, any other is short with the shortage and the group of bytes 4 to 19.
 abbrev pub shownText : List ℕ → List ℕ
-shownText rec = cond (eqb (verdictIn rec) 0) outWord (cond (eqb (verdictIn rec) 1) carriesWord (shortWord ++ shortText (shortageIn rec) (take 16 (drop 4 rec))))
+shownText rec =
+    cond (eqb (verdictIn rec) 0) outWord
+    (cond (eqb (verdictIn rec) 1) carriesWord
+    (shortWord ++ shortText (shortageIn rec) (take 16 (drop 4 rec))))
 
 -- The branch's number, then what its record in the table shows.
 abbrev pub branchText : List ℕ → ℕ → List ℕ

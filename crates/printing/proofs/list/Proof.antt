@@ -1,10 +1,7 @@
 -- `list` prints the head line and then the line of each branch of the book.
 use borrow.Author.Needs.{needs}
 use native.Mathlib.Omega.{arith}
-use mathlib.Core.Path.{_≡_}
 use Prim.Native.Nat.{_-_}
-use Rattle.layout.specs.Layout.{branchesIn}
-use Rattle.printing.specs.Inside.{Listable}
 use Rattle.printing.proofs.Counted.{Printing, printing-none, printing-more, printed-all}
 use Rattle.printing.proofs.list.Statement.{statement}
 use Rattle.printing.proofs.list.Tie as tie
@@ -37,7 +34,9 @@ loop-less : tie.Need-loop-less Inv-loop μ-loop
 loop-less c = omega arith
 
 loop-again : tie.Need-loop-again Inv-loop μ-loop
-loop-again c = printing-more _ _ (c .before .before .loop .inv) (omega (arith, c .before .loop-test .taken, c .before .before .before .before .head-of .ensures .branches-are)) (c .print-branch .ensures)
+loop-again c =
+    let head = c .before .before .before .before .head-of .ensures in
+    printing-more _ _ (c .before .before .loop .inv) (omega (arith, c .before .loop-test .taken, head .branches-are)) (c .print-branch .ensures)
 
 returns : tie.Need-returns Inv-loop μ-loop
 returns c = printed-all _ _ (c .before .loop .inv) (omega (arith, c .before .before .before .head-of .ensures))
