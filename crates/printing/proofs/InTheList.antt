@@ -41,6 +41,9 @@ unfolding caseOf
 case-buses bs = buses-of bs
 
 -- ---- The lines stand apart: line 0 is the head line, and line k + 1 that of branch k.
+plain-head : (bs : List ℕ) → Plain (headText bs)
+plain-head bs = plain-then (decimalOf (busesIn bs)) _ (plain-decimal _) (plain-next _)
+
 plain-out : Plain outWord
 unfolding Plain
 plain-out = (refl, (refl, (refl, (refl, tt))))
@@ -68,12 +71,12 @@ accepted-is bs r table e = ap (λ (o : Outcome). settled o (lineOf (refusedText 
 
 module _ (bs : List ℕ) (r : Answer) (table : List ℕ) (ok : r .outcome ≡ Accepted) where
   pub head-line : lineAt 0 (listText bs r table) ≡ headText bs
-  head-line = rw (accepted-is bs r table ok) (first-line (headText bs) _ (plain-then (decimalOf (busesIn bs)) _ (plain-decimal _) (plain-next _)))
+  head-line = rw (accepted-is bs r table ok) (first-line (headText bs) _ (plain-head bs))
 
   pub branch-line : (k : ℕ) → k < branchesIn bs → lineAt (suc k) (listText bs r table) ≡ branchText table k
   branch-line k l =
       rw (accepted-is bs r table ok)
-      (next-line k (headText bs) _ (plain-then (decimalOf (busesIn bs)) _ (plain-decimal _) (plain-next _))
+      (next-line k (headText bs) _ (plain-head bs)
       ∙ ap (lineAt k) (sym (append-nil (joined (branchesIn bs) (λ k. lineOf (branchText table k)))))
       ∙ line-of-joined (branchText table) (plain-branch table) (branchesIn bs) k [] l)
 
