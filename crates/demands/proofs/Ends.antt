@@ -17,8 +17,9 @@ use Rattle.verdict.specs.Update.{Lent}
 use Rattle.state.specs.Case.{caseIn}
 use Rattle.state.specs.Call as call
 use Rattle.state.specs.Call.{lentNumbers, OverloadSaid, Ends}
-use Rattle.state.proofs.Checked.{Passed, passed, lent-gives, posed-book}
-use Rattle.screen.specs.Promise.{Screened, screenCheck, ScreenEnds, refuses, overloads, accepts}
+use Rattle.state.proofs.Checked.{lent-gives, posed-book}
+use Rattle.screen.specs.Promise.{screenCheck, ScreenEnds, refuses, overloads, accepts}
+use Rattle.screen.proofs.AcceptedScreen.{Done, accepted-screen}
 use Rattle.outage.specs.Promise.{takeNumbers, TakenOut, TakeEnds}
 use Rattle.outage.proofs.Checking.{Takeable, takeable, take-gives}
 
@@ -39,19 +40,9 @@ pub refused-not : (ns : List ℕ) (o : Outcome) {r : Answer} → member 0 ns ≡
 refused-not ns o z t g n s e = n (ap (λ (x : Answer). x .outcome) (sym (said-is ns o z t g s) ∙ e))
 
 -- ---- A screen.
-pub record Done (before after : Lent) : Type 0 where
-  pub passes : Passed (before .book) (length (before .flow)) (length (before .table))
-  pub posed-case : Posed (caseIn (before .book))
-  pub screened : Screened (caseIn (before .book)) before after
-
 module _ {before after : Lent} {r : Answer} where
   pub done : ScreenEnds before after r → r ≡ accepted → Done before after
-  unfolding member
-  done (refuses n a k) e = absurd (refused-not lentNumbers (screenCheck before) refl refl (lent-gives _ _ _) n a e)
-  done (overloads c o k) e = absurd (over-not o e)
-  done (accepts c a s) e =
-      let p = passed (before .book) (length (before .flow)) (length (before .table)) c in
-      record { passes = p; posed-case = posed-book (before .book) (p .book); screened = s }
+  done e a = accepted-screen e (ap (λ (x : Answer). x .outcome) a)
 
   pub over-12 : ScreenEnds before after r → numberOf (r .outcome) ≡ 12 → OverloadSaid (caseIn (before .book)) r
   unfolding member

@@ -21,7 +21,7 @@ use Rattle.line.proofs.Adding.{added-then}
 use Rattle.printing.specs.Lines.{headText, branchText, refusedText}
 use Rattle.printing.specs.List.{lineOf, acceptedText, Printed}
 use Rattle.printing.specs.Inside.{Handed, Listable}
-use Rattle.printing.proofs.Ended.{accepted-screen}
+use Rattle.screen.proofs.AcceptedScreen.{accepted-screen}
 
 -- A text built from the first place on, then its newline.
 pub handed : {text l m n : List ℕ} {e r most : ℕ} → Added text l 0 m e → Added (10 ∷ []) m e n (e + 1) → r ≡ e + 1 → e + 1 ≤ most → Handed text most r

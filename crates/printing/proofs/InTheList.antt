@@ -32,7 +32,7 @@ use Rattle.line.proofs.Plain.{Plain, plain-then, plain-cond, plain-decimal, pla
 use Rattle.printing.specs.Lines.{headText, outWord, carriesWord, shortWord, refusedWord, shownText, branchText, refusedText}
 use Rattle.printing.specs.List.{lineOf, lineAt, acceptedText, listText}
 use Rattle.printing.proofs.Texts.{reason-other}
-use Rattle.printing.proofs.Ended.{never-over, number-zero, accepted-screen}
+use Rattle.screen.proofs.AcceptedScreen.{never-over, number-zero, accepted-screen}
 use Rattle.printing.proofs.ShownOfCase.{shortOver, short-over, shows-out, shows-carries, shows-short}
 use Rattle.printing.proofs.LinesApart.{first-line, next-line, line-of-joined}
 

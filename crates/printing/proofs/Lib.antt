@@ -1,5 +1,4 @@
 pub mod Texts
-pub mod Ended
 pub mod Counted
 pub mod ShownOfCase
 pub mod LinesApart

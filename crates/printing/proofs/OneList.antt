@@ -1,7 +1,7 @@
 -- Any two printed lists of a book are one list: the same answer, the same bytes, the same length.
 use mathlib.Core.Path.{_≡_, sym, ap, _∙_}
 use mathlib.Core.List.{List, _++_}
-use Prim.Native.Nat.{_≤_, _<_}
+use Prim.Native.Nat.{ℕ, _≤_, _<_}
 use lib.ListN.{length}
 use Rattle.rows.specs.Bit.{has}
 use Rattle.answer.specs.declared.Answer.{Answer}
@@ -20,7 +20,7 @@ use Rattle.line.proofs.Joined.{joined-same}
 use Rattle.printing.specs.Lines.{headText, refusedText}
 use Rattle.printing.specs.List.{lineOf, acceptedText, listText, Printed}
 use Rattle.printing.specs.declared.Printout.{Printout}
-use Rattle.printing.proofs.Ended.{never-over}
+use Rattle.screen.proofs.AcceptedScreen.{never-over}
 use Rattle.printing.proofs.ShownOfCase.{shows-same}
 
 accepted-same : (bs : List ℕ) {before one two : Lent} → caseIn bs .buses ≤ 128 → Screened (caseIn bs) before one → Screened (caseIn bs) before two

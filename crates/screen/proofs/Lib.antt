@@ -1,1 +1,2 @@
 pub mod ScreenEnd
+pub mod AcceptedScreen

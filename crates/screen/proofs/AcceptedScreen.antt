@@ -10,7 +10,7 @@ use Rattle.answer.specs.declared.Outcome.{Outcome}
 use Rattle.answer.specs.declared.Outcome.the-variants.{Accepted}
 use Rattle.answer.specs.Answer.{numberOf}
 use Rattle.answer.proofs.Numbers.{said-is}
-use Rattle.verdict.specs.Case.{on}
+use Rattle.verdict.specs.Case.{Posed, on}
 use Rattle.verdict.specs.Excess.{Overload}
 use Rattle.verdict.specs.Update.{Lent}
 use Rattle.verdict.proofs.Fitting.{fits-none}
@@ -18,10 +18,11 @@ use Rattle.verdict.proofs.Loss.{never-overload}
 use Rattle.state.specs.Case.{caseIn}
 use Rattle.state.specs.Call.{lentNumbers}
 use Rattle.state.proofs.Checked.{Passed, passed, posed-book, lent-gives}
 use Rattle.screen.specs.Promise.{Screened, screenCheck, ScreenEnds, refuses, overloads, accepts}
 
 pub record Done (before after : Lent) : Type 0 where
   pub passes : Passed (before .book) (length (before .flow)) (length (before .table))
+  pub posed-case : Posed (caseIn (before .book))
   pub screened : Screened (caseIn (before .book)) before after
 
 -- A flow that fits was left, so no group is overloaded.
@@ -40,4 +41,6 @@ accepted-screen {before} (refuses n a k) e =
     let is = said-is lentNumbers (screenCheck before) refl refl (lent-gives _ _ _) a in
     absurd (n (sym (ap (λ (x : Answer). x .outcome) is) ∙ e))
 accepted-screen (overloads c o k) e = absurd (omega (arith, o .answer .number-is, number-zero e))
-accepted-screen (accepts c a s) e = record { passes = passed _ _ _ c; screened = s }
+accepted-screen {before} (accepts c a s) e =
+    let p = passed (before .book) (length (before .flow)) (length (before .table)) c in
+    record { passes = p; posed-case = posed-book (before .book) (p .book); screened = s }
