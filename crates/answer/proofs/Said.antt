@@ -6,7 +6,7 @@ use native.Mathlib.Omega.{arith}
 use Rattle.answer.specs.declared.Outcome.{Outcome}
 use Rattle.answer.specs.declared.Outcome.the-variants.{Accepted, Refused, Overloaded}
 use Rattle.answer.specs.declared.Answer.{Answer}
-use Rattle.answer.specs.Answer.{numberOf, shortageOf, noGroup, Proper, Said, bare, accepted, refused, overloaded}
+use Rattle.answer.specs.Answer.{numberOf, shortageOf, noGroup, Proper, Said, accepted, refused, overloaded}
 
 pub said-accepted : Said accepted 0 0 noGroup
 said-accepted = record { number-is = refl; shortage-is = refl; group-is = refl; proper = tt }

@@ -5,7 +5,7 @@ use Prim.Native.Nat.{ℕ}
 use native.Mathlib.Decide.{ℕ-discrete}
 use lib.IntN.{ℤ, ℤ-discrete}
 use mathlib.Core.List.{List}
-use Rattle.verdict.specs.Case.{Case, Posed, out, on, Fits}
+use Rattle.verdict.specs.Case.{Case, Posed, out, on}
 use Rattle.verdict.specs.Record.{TrueTable}
 use Rattle.verdict.specs.Update.{Lent}
 use Rattle.verdict.proofs.Fitting.{served-other, posed-status}

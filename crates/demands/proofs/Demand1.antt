@@ -1,7 +1,7 @@
 -- Demand 1, over the promises alone: every result of a public call is answered with a number that it may give, and a refusal keeps what was lent.
-use mathlib.Core.Path.{_≡_, refl, sym, ap, _∙_}
-use mathlib.Core.Bool.{true, false}
-use mathlib.Core.List.{List, [], _∷_}
+use mathlib.Core.Path.{_≡_, refl, ap, _∙_}
+use mathlib.Core.Bool.{true}
+use mathlib.Core.List.{List, _∷_}
 use Prim.Native.Nat.{ℕ}
 use lib.IntN.{ℤ}
 use lib.ListN.{length}
@@ -12,7 +12,7 @@ use Rattle.answer.specs.declared.Outcome.the-variants.{Accepted}
 use Rattle.answer.specs.declared.Answer.{Answer}
 use Rattle.answer.proofs.Refusals.{leaves}
 use Rattle.answer.proofs.Said.{said-accepted, said-same}
-use Rattle.answer.proofs.Numbers.{Gives, gives-number, said-is, inside, gives-more}
+use Rattle.answer.proofs.Numbers.{Gives, gives-number, inside, gives-more}
 use Rattle.pack.specs.Write.{writeNumbers, writeCheck, BookWritten}
 use Rattle.pack.proofs.Given.{write-gives, write-answer}
 use Rattle.book.specs.Read.{readNumbers, readCheck, BookRead}
@@ -26,7 +26,7 @@ use Rattle.state.specs.Call as call
 use Rattle.state.specs.Call.{lentNumbers, OverloadSaid, Ends}
 use Rattle.state.proofs.Checked.{lent-gives}
 use Rattle.screen.specs.Promise.{screenCheck, ScreenEnds, refuses, overloads, accepts}
-use Rattle.outage.specs.Promise.{takeNumbers, takeCheck, TakeEnds}
+use Rattle.outage.specs.Promise.{takeNumbers, TakeEnds}
 use Rattle.outage.proofs.Checking.{take-gives}
 use Rattle.demands.specs.Answered.{Answered}
 

@@ -6,7 +6,7 @@ use Prim.Native.Nat.{ℕ}
 use native.Mathlib.Omega.{arith}
 use lib.ListN.{length}
 use Rattle.rows.specs.Row.{member}
-use Rattle.answer.specs.Answer.{numberOf, noGroup, Said, bare, accepted}
+use Rattle.answer.specs.Answer.{numberOf, noGroup, Said, accepted}
 use Rattle.answer.specs.declared.Outcome.{Outcome}
 use Rattle.answer.specs.declared.Outcome.the-variants.{Accepted}
 use Rattle.answer.specs.declared.Answer.{Answer}

@@ -4,7 +4,6 @@ use mathlib.Core.Bool.{false, true≢false}
 use mathlib.Core.List.{List}
 use Prim.Native.Nat.{ℕ, _<_}
 use native.Mathlib.Omega.{arith}
-use lib.IntN.{ℤ}
 use lib.ListN.{length}
 use Rattle.answer.specs.Answer.{noGroup, Said, accepted}
 use Rattle.answer.specs.declared.Outcome.the-variants.{Accepted}

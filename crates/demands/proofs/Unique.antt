@@ -8,7 +8,6 @@ use native.Mathlib.Omega.{arith}
 use lib.IntN.{ℤ}
 use Rattle.rows.specs.Row.{nth}
 use Rattle.rows.proofs.Sum.{side, below, equal, above}
-use Rattle.answer.specs.Answer.{accepted}
 use Rattle.answer.specs.declared.Answer.{Answer}
 use Rattle.verdict.specs.Case.{Case, on, Fits}
 use Rattle.verdict.specs.Record.{recordAt, names, TrueRecord}

@@ -2,7 +2,7 @@
 use mathlib.Core.Path.{_≡_, sym, ap, _∙_}
 use mathlib.Core.List.{List}
 use Prim.Native.Nat.{ℕ}
-use Rattle.answer.specs.Answer.{numberOf, shortageOf, Said}
+use Rattle.answer.specs.Answer.{numberOf, shortageOf}
 use Rattle.answer.specs.declared.Answer.{Answer}
 use Rattle.verdict.specs.Case.{out}
 use Rattle.verdict.specs.Update.{Lent}

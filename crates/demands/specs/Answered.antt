@@ -1,7 +1,7 @@
 -- What demand 1 asks of every result of a public call.
 use mathlib.Core.Path.{_≡_}
 use mathlib.Core.Bool.{true}
-use mathlib.Core.List.{List, [], _∷_}
+use mathlib.Core.List.{List, _∷_}
 use Prim.Native.Nat.{ℕ}
 use Rattle.rows.specs.Row.{member}
 use Rattle.answer.specs.Answer.{numberOf, noGroup, Said, accepted}

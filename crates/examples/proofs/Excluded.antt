@@ -5,7 +5,7 @@ use mathlib.Core.List.{List, [], _∷_}
 use Prim.Native.Nat.{ℕ, zero, suc, _≤_, _<_}
 use native.Mathlib.Omega.{arith}
 use lib.IntN.{ℤ, pos, natAbs, _-ℤ_}
-use lib.ListN.{length, getD, take}
+use lib.ListN.{length, take}
 use lib.Seq.{getD-take}
 use Rattle.rows.specs.Row.{nth, every}
 use Rattle.answer.specs.Answer.{numberOf}
@@ -24,7 +24,7 @@ use Rattle.verdict.specs.Case.{on, leaving, arriving, Fits}
 use Rattle.verdict.specs.Record.{recordAt, verdictIn, names}
 use Rattle.verdict.specs.Update.{Lent}
 use Rattle.record.specs.Inside.{recordBytes}
-use Rattle.state.specs.Case.{caseOf, caseIn}
+use Rattle.state.specs.Case.{caseOf}
 use Rattle.state.specs.Call.{lent, refuses, unfit, overloads, accepts}
 use Rattle.screen.specs.Promise.{ScreenEnds}
 use Rattle.outage.specs.Promise.{Confined, takeCheck, TakeEnds}
@@ -34,7 +34,7 @@ use Rattle.state.proofs.Status.{branches-of}
 use Rattle.demands.proofs.Excluded.{eleven-first}
 use Rattle.verdict.proofs.Shown.{out-exactly}
 use Rattle.demands.proofs.Demand3.{run-true, run-posed}
-use Rattle.examples.specs.Row.{out, carries, short, sightBytes, Row, shows, Shows, Takes}
+use Rattle.examples.specs.Row.{out, carries, short, sightBytes, Shows, Takes}
 use Rattle.examples.specs.Table.{minus, joins, triangle, second, markedRows}
 use Rattle.examples.proofs.Tests.{wellTest, well-sound}
 use Rattle.examples.proofs.Marked.{row-in, marked-examples}

@@ -5,7 +5,6 @@ use mathlib.Core.List.{List}
 use Prim.Native.Nat.{ℕ, _+_, _<_, _≤_}
 use lib.Dec.{eqb}
 use lib.IntN.{ℤ}
-use lib.ListN.{length}
 use Rattle.rows.specs.Row.{nth}
 use Rattle.rows.specs.Sum.{over}
 use Rattle.search.specs.InsideLinks.{Linkable}

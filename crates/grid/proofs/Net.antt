@@ -1,5 +1,5 @@
 -- A network, and what a group of its buses brings, takes and may send out.
-use mathlib.Core.Bool.{Bool, true, false, cond}
+use mathlib.Core.Bool.{cond}
 use Prim.Native.Nat.{ℕ, _<_}
 use lib.Dec.{eqb}
 use Rattle.rows.specs.Sum.{Group, differ, over}

@@ -13,7 +13,7 @@ use Rattle.rows.specs.Row.{some, headed}
 use Rattle.rows.specs.Sum.{pick, over, sum}
 use Rattle.answer.specs.Answer.{bare, accepted, refused, refuseIf}
 use Rattle.answer.specs.declared.Outcome.{Outcome}
-use Rattle.answer.specs.declared.Outcome.the-variants.{Accepted, Refused, Overloaded}
+use Rattle.answer.specs.declared.Outcome.the-variants.{Accepted}
 use Rattle.answer.proofs.Refusals.{past, stands, refusal-stands, leaves}
 use Rattle.rows.proofs.Row.{either-false, no-some}
 use Rattle.rows.proofs.Sum.{over-add, over-same, over-bound}

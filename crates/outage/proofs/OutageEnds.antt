@@ -19,7 +19,6 @@ use Rattle.answer.proofs.Refusals.{refusal-stands}
 use Rattle.answer.proofs.Said.{said-accepted, said-refused}
 use Rattle.answer.proofs.Numbers.{gives-said}
 use Rattle.quantity.specs.Signed.{posPart, negPart}
-use Rattle.quantity.proofs.Parts.{size-parts}
 use Rattle.bits.specs.Field.{setBit}
 use Rattle.layout.specs.Layout.{busesIn, branchesIn, statusBit, bookOf}
 use Rattle.layout.proofs.WellFormed.{accepted-well, buses-of}
@@ -33,7 +32,7 @@ use Rattle.fit.specs.Inside.{Lendable, Fitted}
 use Rattle.fit.specs.declared.Lending.{Lending}
 use Rattle.verdict.specs.Case.{Case, out, on}
 use Rattle.verdict.specs.Record.{recordAt}
-use Rattle.state.specs.Case.{caseOf, caseIn}
+use Rattle.state.specs.Case.{caseIn}
 use Rattle.state.specs.Call.{lent, refuses, unfit, overloads, accepts}
 use Rattle.state.specs.Inside.{Held, State, Planned, Plannable, Fillable, Poised, Rewritten}
 use Rattle.state.specs.declared.Plan.{Plan}

@@ -1,11 +1,9 @@
 -- What the promise of writing fixes: one result, a refusal that says its number alone and leaves all as it was, and a well-formed book.
-use mathlib.Core.Path.{_≡_, refl, sym, ap, _∙_}
-use mathlib.Core.Bool.{not, _||_}
+use mathlib.Core.Path.{_≡_, sym, ap, _∙_}
 use mathlib.Core.List.{List, _++_}
-use Prim.Native.Nat.{ℕ, _*_, _<_}
+use Prim.Native.Nat.{ℕ, _<_}
 use native.Mathlib.Omega.{arith}
 use borrow.Author.Tests.{eqb-true}
-use lib.Dec.{ltb}
 use lib.IntN.{ℤ}
 use lib.ListN.{length, drop}
 use Rattle.answer.specs.declared.Outcome.the-variants.{Accepted}
@@ -16,13 +14,11 @@ use Rattle.rows.specs.Sum.{all}
 use Rattle.rows.proofs.Sum.{over-same}
 use Rattle.quantity.specs.Signed.{posPart, negPart}
 use Rattle.layout.specs.Book.{Book, buses, injection, WellFormed}
-use Rattle.layout.specs.Fault.{firstFault}
 use Rattle.layout.specs.Layout.{bytesFor, encode}
-use Rattle.layout.specs.Check.{outside, balances}
 use Rattle.layout.proofs.Faults.{sound-bus, sound-branch, first-sound}
 use Rattle.layout.proofs.WellFormed.{balance-sum}
 use Rattle.layout.proofs.DecodeEncode.{length-encode}
-use Rattle.pack.specs.Write.{entry, rowAt, bookFrom, entryFault, rowFault, writeCheck, BookWritten}
+use Rattle.pack.specs.Write.{rowAt, bookFrom, entryFault, rowFault, writeCheck, BookWritten}
 use Rattle.pack.proofs.Given.{write-answer}
 use Rattle.pack.proofs.Writable.{Writable, buses-from, count-from, factor-from, injection-from, branch-from}
 

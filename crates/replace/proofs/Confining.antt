@@ -27,7 +27,7 @@ use Rattle.replace.specs.Inside.{Chosen, NamedOnly}
 use Rattle.replace.proofs.Split.{rest, only, split}
 use Rattle.replace.proofs.MergedRows.{nothing, merged-outside, merged-lost}
 use Rattle.replace.proofs.AttemptRows.{kept-same, lost-none, ahead-is, back-is}
-use Rattle.replace.proofs.KeptBranches.{keepOf, keep-k, Kind, kept, lost, other, kind}
+use Rattle.replace.proofs.KeptBranches.{keepOf, keep-k, kept, lost, other, kind}
 
 -- q: what the first attempt may use.
 module _ (W : Wires) (live : List ℕ) (latent : Latent) (named : List ℕ) (k : ℕ) (P : Losable W live latent k) (la : length (latent .ahead) ≡ 256)

@@ -11,7 +11,7 @@ use Rattle.rows.specs.Row.{nth}
 use Rattle.rows.specs.Sum.{all, pick}
 use Rattle.rows.specs.Bit.{has}
 use Rattle.rows.proofs.Sum.{pick-zero, over-set, over-term}
-use Rattle.grid.proofs.Net.{EndsThere, gains, loads, without}
+use Rattle.grid.proofs.Net.{EndsThere, gains, loads}
 use Rattle.grid.proofs.Flow.{Balanced}
 use Rattle.grid.proofs.Cut.{whole}
 use Rattle.grid.proofs.Without.{over-without}

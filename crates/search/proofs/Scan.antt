@@ -7,15 +7,14 @@ use Prim.Native.Nat.{ℕ, _+_, _%_, _<_, _≤_, min}
 use native.Mathlib.Omega.{arith}
 use native.Mathlib.Decide.{ℕ-discrete}
 use borrow.Author.Count.{below-more}
-use borrow.Author.Tests.{lt-ltb, le-ltb, ltb-true}
+use borrow.Author.Tests.{lt-ltb, le-ltb}
 use lib.Dec.{ltb}
 use lib.ListN.{length, set, length-set}
 use lib.Seq.{getD-set-same, getD-set-other}
 use Rattle.rows.specs.Row.{nth}
 use Rattle.rows.proofs.Sum.{below, equal, above, side as order}
-use Rattle.grid.proofs.ReachBySteps.{Reach, here as begun, onward as led, Reached}
 use Rattle.search.specs.InsideLinks.{Touches, Met, at-first, at-second, branchOf, Least, Linked}
-use Rattle.search.specs.InsideSearch.{Scene, scene, Way, Arc, Step, Start, marked, Trail, Routed}
+use Rattle.search.specs.InsideSearch.{Scene, scene, Way, Arc, Trail, Routed}
 use Rattle.search.specs.InsideSearch.Way.{forth, back}
 use Rattle.search.specs.Inside.{Tree, Seeded}
 use Rattle.search.specs.declared.Wires.{Wires}
@@ -23,7 +22,7 @@ use Rattle.search.specs.declared.Latent.{Latent}
 use Rattle.search.specs.declared.Grown.{Grown}
 use Rattle.search.proofs.Marking.{either-place, still-positive}
 use Rattle.search.proofs.Links.{after-least, far-in}
-use Rattle.search.proofs.Tree.{positive, New, link, fit-q, grow, marked-reached}
+use Rattle.search.proofs.Tree.{positive, New, link, fit-q, grow}
 use Rattle.search.proofs.Route.{trail-of, origin-of, room-of}
 
 -- Every branch of the buses before place `at` was followed.

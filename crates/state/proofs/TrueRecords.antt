@@ -28,7 +28,7 @@ use Rattle.reroute.specs.declared.Verdict.the-variants.{Carries, Short}
 use Rattle.verdict.specs.Case.{Case, Posed, out, Fits}
 use Rattle.verdict.specs.Excess.{NoExcess, Short as IsShort}
 use Rattle.verdict.specs.Record.{shortageIn, groupIn, is-out, carries, short, TrueRecord}
-use Rattle.verdict.proofs.Plain.{netOf, flowOf, lossNet, PlainLargest}
+use Rattle.verdict.proofs.Plain.{netOf, flowOf, lossNet}
 use Rattle.verdict.proofs.Fitting.{nothing, served-other, fits-balanced, fits-none, settled-fits}
 use Rattle.verdict.proofs.Loss.{short-is, fits-carries}
 use Rattle.verdict.proofs.Alike.{SameFlow, within-alike, balanced-alike, net-out, gains-loads, shortage-limit}

@@ -4,18 +4,16 @@ use mathlib.Core.Bool.{Bool, true, false, true≢false}
 use mathlib.Core.List.{List}
 use Prim.Native.Nat.{ℕ, _+_, _-_, _/_, _%_, _≤_, _<_}
 use native.Mathlib.Omega.{arith}
-use native.Mathlib.Decide.{ℕ-discrete}
 use lib.IntN.{ℤ, pos}
-use lib.ListN.{length, take, drop, length-take, List·getD-eq-default}
+use lib.ListN.{take, drop, length-take, List·getD-eq-default}
 use lib.Seq.{getD-take, getD-drop}
 use Rattle.rows.specs.Row.{nth}
-use Rattle.rows.specs.Bit.{bitAt}
 use Rattle.rows.proofs.Sum.{side, below, equal, above}
 use Rattle.bits.proofs.Low.{low-zero}
 use Rattle.bits.proofs.ReadAsPut.{bit-low}
-use Rattle.verdict.specs.Case.{Case, out, Fits}
+use Rattle.verdict.specs.Case.{Case, Fits}
 use Rattle.verdict.specs.Record.{verdictIn, names, Zero, Rerouted, Told, is-out, carries, short}
-use Rattle.verdict.proofs.Fitting.{served-self, served-other}
+use Rattle.verdict.proofs.Fitting.{served-other}
 
 zero-names : (rec : List ℕ) → Zero rec 20 52 → (j : ℕ) → names rec j ≡ false
 zero-names rec z j = rw (bit-low (take 32 (drop 20 rec)) j, byte (j / 8), low-zero (7 - j % 8)) refl

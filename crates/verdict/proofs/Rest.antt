@@ -4,7 +4,7 @@ use mathlib.Core.Bool.{Bool, true, false, not, _&&_}
 use Prim.Native.Nat.{ℕ, zero, suc, _+_}
 use native.Mathlib.Omega.{arith}
 use lib.Dec.{eqb}
-use lib.IntN.{ℤ, negℤ}
+use lib.IntN.{negℤ}
 use Rattle.rows.specs.Sum.{Group, all, differ, pick, over}
 use Rattle.rows.proofs.Sum.{over-same}
 use Rattle.quantity.specs.Signed.{posPart, negPart}

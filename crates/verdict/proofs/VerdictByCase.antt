@@ -18,7 +18,7 @@ use Rattle.bits.proofs.ReadAsPut.{bit-lt, ext-bits}
 use Rattle.grid.proofs.OneSmallestGroup.{same-truth}
 use Rattle.quantity.proofs.Parts.{at-most}
 use Rattle.verdict.specs.Case.{Case}
-use Rattle.verdict.specs.Excess.{Largest, Overload, Short}
+use Rattle.verdict.specs.Excess.{Largest, Short}
 use Rattle.verdict.specs.Record.{recordAt, verdictIn, shortageIn, groupIn, names, Told, is-out, carries, short, TrueRecord, TrueTable}
 use Rattle.verdict.proofs.Loss.{never-both}
 

@@ -1,6 +1,6 @@
 -- The answer of the call in three parts.
 use borrow.Author.Needs.{needs}
-use mathlib.Core.Path.{_≡_, refl, sym}
+use mathlib.Core.Path.{refl, sym}
 use Rattle.screen.proofs.ScreenEnd.{screen-proper}
 use Rattle.callable.proofs.callable_screen.Statement.{statement}
 use Rattle.callable.proofs.callable_screen.Tie as tie

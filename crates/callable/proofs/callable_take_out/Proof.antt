@@ -1,6 +1,6 @@
 -- The answer of the call in three parts.
 use borrow.Author.Needs.{needs}
-use mathlib.Core.Path.{_≡_, refl, sym}
+use mathlib.Core.Path.{refl, sym}
 use Rattle.state.proofs.ProperAnswer.{ends-proper}
 use Rattle.callable.proofs.callable_take_out.Statement.{statement}
 use Rattle.callable.proofs.callable_take_out.Tie as tie

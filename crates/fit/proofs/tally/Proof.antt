@@ -1,9 +1,8 @@
 -- The loop over the branches: x at the one end, y at the other.
 use borrow.Author.Needs.{needs}
 use native.Mathlib.Omega.{arith}
-use mathlib.Core.Path.{_≡_, refl, sym, ap, _∙_}
-use Prim.Native.Nat.{ℕ, zero, suc, _+_, _-_, _*_, _/_, _%_, _^_, _≤_, _<_}
-use lib.ListN.{length, getD, set, length-set}
+use mathlib.Core.Path.{refl}
+use Prim.Native.Nat.{_-_, _<_}
 use Rattle.rows.specs.Row.{nth}
 use Rattle.fit.proofs.Tallying.{Tallying, tallying-none, first-fits, second-fits, tallying-more, tallying-all}
 use Rattle.fit.proofs.tally.Statement.{statement}

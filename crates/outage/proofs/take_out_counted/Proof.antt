@@ -11,7 +11,6 @@ use lib.ListN.{length, take, drop}
 use Rattle.answer.specs.Answer.{bare}
 use Rattle.answer.specs.declared.Outcome.the-variants.{Accepted}
 use Rattle.answer.proofs.Refusals.{not-accepted}
-use Rattle.verdict.specs.Record.{recordAt}
 use Rattle.state.specs.Inside.{Poised}
 use Rattle.outage.specs.Promise.{takeCheck}
 use Rattle.outage.proofs.OutageEnds.{ends-refused, may, plannable-here, sizes, count-here, lendable-here, ends-unfit, losable-here, ends-short, fillable-here, poised-here, ends-taken}

@@ -11,7 +11,7 @@ use Rattle.quantity.specs.Signed.{posPart, negPart}
 use Rattle.answer.specs.declared.Outcome.the-variants.{Accepted}
 use Rattle.answer.proofs.Refusals.{not-accepted}
 use Rattle.layout.specs.Book.{WellFormed}
-use Rattle.layout.specs.Layout.{branchesIn, bookOf}
+use Rattle.layout.specs.Layout.{bookOf}
 use Rattle.layout.proofs.WellFormed.{accepted-well}
 use Rattle.verdict.specs.Case.{on}
 use Rattle.state.specs.Case.{caseIn}
