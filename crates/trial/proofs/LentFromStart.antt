@@ -53,7 +53,8 @@ module _ (promise : Lent → Lent → Answer → Type 0) (r : Answer) {book book
       })
 
 -- The same call, what it was asked being written otherwise.
-pub called-as : (promise : ℕ → Lent → Lent → Answer → Type 0) {k k′ n i j : ℕ} {l l′ : Lent} → k ≡ k′ → Called (promise k) n i j l l′ → Called (promise k′) n i j l l′
+pub called-as : (promise : ℕ → Lent → Lent → Answer → Type 0) {k k′ n i j : ℕ} {l l′ : Lent} → k ≡ k′
+    → Called (promise k) n i j l l′ → Called (promise k′) n i j l l′
 called-as promise e c = rw e at c
 
 pub read-into : (r : Answer) (book : List ℕ) (n : ℕ) {injections injections′ f : List ℤ} {branches branches′ t : List ℕ} {i j i′ j′ : ℕ}
@@ -73,7 +74,8 @@ metered-into r registersOf {n = n} p e g h =
     let x : n - 0 ≡ n = omega arith in
     rw (← e, ← g) (record { answer = r; metered = rw (p .held) (rw x at h); kept = p .kept })
 
-module _ {n m factor : ℕ} {injections : List ℤ} {branches book book′ last : List ℕ} {room : ℕ} (bytes : ℕ) (r : Answer) (p : Part room book book′ last)
+module _ {n m factor : ℕ} {injections : List ℤ} {branches book book′ last : List ℕ} {room : ℕ} (bytes : ℕ) (r : Answer)
+    (p : Part room book book′ last)
     (w : BookWritten n m factor injections branches (midOf 0 (room - 0) book) last r) where
   same : BookWritten n m factor injections branches (take room book) (take room book′) r
   same =

@@ -11,7 +11,9 @@ use lib.ListN.{length, getD, take, drop, replicate}
 use lib.Seq.{getD-take, getD-drop, ext-getD}
 use Rattle.rows.specs.Row.{nth, upTo, headed}
 use Rattle.rows.proofs.Row.{length-upTo, getD-upTo, length-headed, headed-at}
-use Rattle.meters.specs.Registers.{registers}
+use Rattle.answer.specs.declared.Answer.{Answer}
+use Rattle.meters.specs.Registers.{Registers, registers}
+use Rattle.meters.specs.Promise.{Metered}
 use Rattle.spaces.specs.InsideStream.{fourAt}
 use Rattle.trial.specs.declared.tables.Lists.{Lists}
 use Rattle.trial.specs.InsideCalls.{ListsAsked, registersIn, metersSize, metersGood}
@@ -48,7 +50,8 @@ module _ (rest : List ℕ) (room : ℕ) where
 part-filled : (f : ℕ → ℕ) (count : ℕ) (row : List ℕ) (i n e : ℕ) → e ≡ i + n → e ≤ count → count ≤ length row
     → midOf i (e - i) (headed count f row) ≡ upTo n (λ j. f (i + j))
 part-filled f count row i n e q h k =
-    let long : length (midOf i (e - i) (headed count f row)) ≡ e - i = mid-len i e (headed count f row) (omega (arith, length-headed count f row k)) in
+    let long : length (midOf i (e - i) (headed count f row)) ≡ e - i =
+    mid-len i e (headed count f row) (omega (arith, length-headed count f row k)) in
     ext-getD 0 (midOf i (e - i) (headed count f row)) (upTo n (λ j. f (i + j))) (long ∙ omega (arith, length-upTo n (λ j. f (i + j)))) (λ j l.
     let below : j < e - i = omega (arith, long) in
     getD-take (e - i) (drop i (headed count f row)) j 0 below
@@ -56,8 +59,15 @@ part-filled f count row i n e q h k =
     ∙ headed-at count f row (i + j) 0 (omega arith)
     ∙ sym (getD-upTo n (λ m. f (i + m)) j 0 (omega arith)))
 
-module _ (rest : List ℕ) (supply : ℕ) {row : List ℕ} {l : Lists} (a : ListsAsked rest l) (e : row ≡ headed (l .fourth) (λ i. fourAt rest (7 + 4 * i)) (replicate 1020 0)) where
-  pub registers-are : registers (midOf 0 (l .first - 0) row) (midOf (l .first) (l .second - l .first) row) (midOf (l .second) (l .third - l .second) row) (midOf (l .third) (l .fourth - l .third) row) supply ≡ registersIn rest supply
+module _ (rest : List ℕ) (supply : ℕ) {row : List ℕ} {l : Lists} (a : ListsAsked rest l)
+    (e : row ≡ headed (l .fourth) (λ i. fourAt rest (7 + 4 * i)) (replicate 1020 0)) where
+  pub registers-are : registers
+      (midOf 0 (l .first - 0) row)
+      (midOf (l .first) (l .second - l .first) row)
+      (midOf (l .second) (l .third - l .second) row)
+      (midOf (l .third) (l .fourth - l .third) row)
+      supply
+      ≡ registersIn rest supply
   registers-are =
       let f : ℕ → ℕ = λ i. fourAt rest (7 + 4 * i) in
       let second : l .second ≡ nth rest 1 + nth rest 2 = omega (arith, a .first-is, a .second-is) in
@@ -74,3 +84,7 @@ module _ (rest : List ℕ) (supply : ℕ) {row : List ℕ} {l : Lists} (a : List
         second,
         a .first-is,
       ) refl
+
+-- The same promise, its registers being written otherwise.
+pub metered-as : {R S : Registers} {out out′ : List ℤ} {r : Answer} → R ≡ S → Metered R out out′ r → Metered S out out′ r
+metered-as e m = rw e at m

@@ -11,11 +11,13 @@ use Rattle.trial.specs.declared.tables.Head.{Head}
 use Rattle.trial.specs.Inside.{Asked, good}
 use Rattle.trial.specs.InsideCalls.{headGood, HeadAsked, writeGood}
 
-pub next-end : {rest : List ℕ} {e most : ℕ} {r : Number} (t : Bool) (at : ℕ) → e ≡ cond t at 0 → Asked rest e most r → r .end ≡ cond (t && good rest at most) (at + 2) 0
+pub next-end : {rest : List ℕ} {e most : ℕ} {r : Number} (t : Bool) (at : ℕ) → e ≡ cond t at 0
+    → Asked rest e most r → r .end ≡ cond (t && good rest at most) (at + 2) 0
 next-end true at h a = rw h at (a .end-is)
 next-end false at h a = rw h at (a .end-is)
 
-pub next-value : {rest : List ℕ} {e most : ℕ} {r : Number} (t : Bool) (at : ℕ) → e ≡ cond t at 0 → Asked rest e most r → t && good rest at most ≡ true → r .value ≡ twoAt rest at
+pub next-value : {rest : List ℕ} {e most : ℕ} {r : Number} (t : Bool) (at : ℕ) → e ≡ cond t at 0
+    → Asked rest e most r → t && good rest at most ≡ true → r .value ≡ twoAt rest at
 next-value true at h a g = rw (h, g) at (a .value-is)
 next-value false at h a g = absurd (false≢true g)
 
@@ -89,7 +91,8 @@ pub record WriteAsked (rest : List ℕ) (i j k : ℕ) (h : Head) (a b c : Number
   pub room-is : c .value ≡ twoAt rest 11
   pub end-is : c .end ≡ 13
 
-module _ {rest : List ℕ} {i j k : ℕ} {h : Head} {a b c : Number} (p : HeadAsked rest h) (q : Asked rest (h .end) i a) (s : Asked rest (a .end) j b) (t : Asked rest (b .end) k c) where
+module _ {rest : List ℕ} {i j k : ℕ} {h : Head} {a b c : Number}
+    (p : HeadAsked rest h) (q : Asked rest (h .end) i a) (s : Asked rest (a .end) j b) (t : Asked rest (b .end) k c) where
   four-end : a .end ≡ cond (headGood rest && good rest 7 i) 9 0
   four-end = next-end (headGood rest) 7 (p .end-is) q
 
@@ -105,7 +108,8 @@ module _ {rest : List ℕ} {i j k : ℕ} {h : Head} {a b c : Number} (p : HeadAs
   pub write-good : (c .end ≡ 0 → ⊥) → WriteAsked rest i j k h a b c
   write-good z =
       let g : writeGood rest i j k ≡ true = all-good (writeGood rest i j k) 13 six-end z in
-      let g5 : (headGood rest && good rest 7 i) && good rest 9 j ≡ true = both-true ((headGood rest && good rest 7 i) && good rest 9 j) (good rest 11 k) g .0 in
+      let g5 : (headGood rest && good rest 7 i) && good rest 9 j ≡ true =
+      both-true ((headGood rest && good rest 7 i) && good rest 9 j) (good rest 11 k) g .0 in
       let g4 : headGood rest && good rest 7 i ≡ true = both-true (headGood rest && good rest 7 i) (good rest 9 j) g5 .0 in
       let g3 : headGood rest ≡ true = both-true (headGood rest) (good rest 7 i) g4 .0 in
       record {

@@ -1,8 +1,9 @@
--- What the commands that make a call do. Their numbers are good, and the call is made on parts of the spaces, all else being as it was; or nothing is changed.
+-- What the commands that make a call do: their numbers are good, and the call is made on parts of the spaces, all else being as it was; or they
+-- are not, and nothing is changed.
 use mathlib.Core.Path.{_≡_}
 use mathlib.Core.Bool.{Bool, true, false, cond, _&&_}
 use mathlib.Core.List.{List}
-use Prim.Native.Nat.{ℕ, _+_, _*_, _≤_}
+use Prim.Native.Nat.{ℕ, _+_, _*_, _<_, _≤_}
 use lib.Dec.{leb}
 use lib.IntN.{ℤ}
 use lib.ListN.{length, take, drop}
@@ -20,6 +21,7 @@ use Rattle.meters.specs.Registers.{Registers, registers}
 use Rattle.meters.specs.Promise.{Metered}
 use Rattle.spaces.specs.declared.Next.{Next}
 use Rattle.spaces.specs.InsideStream.{fourAt}
+use Rattle.spaces.specs.InsideSpaces.{Spoilt, BookSet, PlacesSet}
 use Rattle.trial.specs.declared.tables.Head.{Head}
 use Rattle.trial.specs.declared.tables.Lists.{Lists}
 use Rattle.trial.specs.Inside.{good}
@@ -70,7 +72,8 @@ ReadRun rest bs injections injections′ branches branches′ r =
     (ReadInto bs (twoAt rest 1) (twoAt rest 3) injections injections′ branches branches′) ((injections′ ≡ injections) × (branches′ ≡ branches)) r
 
 -- ---- `W`: a book is written into the first bytes of the space; accepted, it has the written length, else the one that it had.
-pub record WrittenInto (n m factor : ℕ) (injections : List ℤ) (branches : List ℕ) (room : ℕ) (book : List ℕ) (bytes : ℕ) (book′ : List ℕ) (bytes′ : ℕ) : Type 0 where
+pub record WrittenInto (n m factor : ℕ) (injections : List ℤ) (branches : List ℕ)
+    (room : ℕ) (book : List ℕ) (bytes : ℕ) (book′ : List ℕ) (bytes′ : ℕ) : Type 0 where
   pub answer : Answer
   pub written : BookWritten n m factor injections branches (take room book) (take room book′) answer
   pub kept : drop room book′ ≡ drop room book
@@ -134,7 +137,8 @@ MetersRun rest injections injections′ r =
     (MeteredInto (registersIn rest (nth rest 6)) (nth rest 5) injections injections′) (injections′ ≡ injections) r
 
 -- ---- Each letter makes its own call, `D` changes nothing, and another letter takes no byte. The spaces that a call isn't lent are as they were.
-pub data CallRun (letter : ℕ) (rest : List ℕ) (bytes : ℕ) (before after : Lent) (injections injections′ : List ℤ) (branches branches′ : List ℕ) (r : ℕ) : Type 0 where
+pub data CallRun (letter : ℕ) (rest : List ℕ) (bytes : ℕ) (before after : Lent)
+    (injections injections′ : List ℤ) (branches branches′ : List ℕ) (r : ℕ) : Type 0 where
   screens : letter ≡ 83 → ScreenRun rest bytes before after r → injections′ ≡ injections → branches′ ≡ branches
       → CallRun letter rest bytes before after injections injections′ branches branches′ r
   takes-out : letter ≡ 79 → OutRun rest bytes before after r → injections′ ≡ injections → branches′ ≡ branches
@@ -148,3 +152,23 @@ pub data CallRun (letter : ℕ) (rest : List ℕ) (bytes : ℕ) (before after : 
   none : (letter ≡ 83 → ⊥) → (letter ≡ 79 → ⊥) → (letter ≡ 82 → ⊥) → (letter ≡ 77 → ⊥) → (letter ≡ 68 → ⊥) → r ≡ 0
       → after ≡ before → injections′ ≡ injections → branches′ ≡ branches
       → CallRun letter rest bytes before after injections injections′ branches branches′ r
+
+-- ---- One command, on all spaces: the letter says which. A letter that sets no place, or a bad place, is left to the calls.
+pub data CommandRun (rest : List ℕ) (bytes : ℕ) (before after : Lent)
+    (injections injections′ : List ℤ) (branches branches′ : List ℕ) (r : Next) : Type 0 where
+  spoils : nth rest 0 ≡ 80 → r .taken ≡ 1 → r .bytes ≡ 0 → Spoilt (after .book) (after .flow) (after .table) injections′ branches′
+      → CommandRun rest bytes before after injections injections′ branches branches′ r
+  sets-book : nth rest 0 ≡ 66 → BookSet rest (before .book) bytes (after .book) r
+      → after .flow ≡ before .flow → after .table ≡ before .table → injections′ ≡ injections → branches′ ≡ branches
+      → CommandRun rest bytes before after injections injections′ branches branches′ r
+  writes : nth rest 0 ≡ 87 → WriteRun rest injections branches (before .book) bytes (after .book) r
+      → after .flow ≡ before .flow → after .table ≡ before .table → injections′ ≡ injections → branches′ ≡ branches
+      → CommandRun rest bytes before after injections injections′ branches branches′ r
+  sets-place : 0 < r .taken
+      → PlacesSet (nth rest 0) rest (before .flow) (before .table) injections branches (after .flow) (after .table) injections′ branches′ (r .taken)
+      → after .book ≡ before .book → r .bytes ≡ bytes
+      → CommandRun rest bytes before after injections injections′ branches branches′ r
+  calls : (nth rest 0 ≡ 80 → ⊥) → (nth rest 0 ≡ 66 → ⊥) → (nth rest 0 ≡ 87 → ⊥)
+      → PlacesSet (nth rest 0) rest (before .flow) (before .table) injections branches (before .flow) (before .table) injections branches 0
+      → CallRun (nth rest 0) rest bytes before after injections injections′ branches branches′ (r .taken) → r .bytes ≡ bytes
+      → CommandRun rest bytes before after injections injections′ branches branches′ r

@@ -1,7 +1,9 @@
 // Runs calls from a stream on standard input and writes what they answer: docs/TRIAL.md has the table of its commands.
 ghost use Prim.Native.Nat.{_<_, _≤_};
 ghost use lib.ListN.{length};
+ghost use Rattle.state.specs.Call.{lent};
 ghost use Rattle.trial.specs.Inside.{Refilled};
+ghost use Rattle.trial.specs.InsideCalls.{CommandRun};
 
 mod calls;
 mod lines;
@@ -62,6 +64,7 @@ fn run(
     branches: &mut [u32; 1280],
 ) -> Next
     requires { ⌜ (0 < length (now rest)) × (bytes ≤ 2100) ⌝ }
+    ensures { λ r. ⌜ CommandRun (now (rest .entry)) bytes (lent (now (book .entry)) (now (flow .entry)) (now (table .entry))) (lent (now (book .exit)) (now (flow .exit)) (now (table .exit))) (now (injections .entry)) (now (injections .exit)) (now (branches .entry)) (now (branches .exit)) r ⌝ }
     ensures { λ r. ⌜ (r .taken ≤ length (now (rest .entry))) × (r .bytes ≤ 2100) ⌝ }
 {
     let letter = rest[0];

@@ -1,5 +1,5 @@
-// Commands on the tables beside a book: it is read into them, written from them, and the injections come from meters. Each answers how many bytes of the
-// stream it took, and 0 where it is bad.
+// Commands on the tables beside a book: it is read into them, written from them, and the injections come from meters. Each answers how many
+// bytes of the stream it took, and 0 where it is bad.
 ghost use mathlib.Core.Path.{_≡_};
 ghost use Prim.Native.Nat.{_+_, _*_, _<_, _≤_};
 ghost use lib.ListN.{length, take, replicate};

@@ -68,10 +68,10 @@ loop-again c =
     let e = ready .ready .ensures in
     let long = ready .ready .kept .0 in
     let part : length (take (w .end - w .at) (drop (w .at) (ready .ready .last .0))) ≡ w .end - w .at = mid-len (w .at) (w .end) (ready .ready .last .0) (e .inside) in (
-      omega (arith, run .run .ensures .0, part, e .more),
+      omega (arith, run .run .ensures .1 .0, part, e .more),
       omega (arith, e .inside, long, inv .2),
       long ∙ inv .2,
-      run .run .ensures .1,
+      run .run .ensures .1 .1,
       inv .4,
     )
 

@@ -19,7 +19,9 @@ same-length-3 : tie.Need-same-length-3
 same-length-3 c = search needs
 
 returns : tie.Need-returns
-returns c = let call = c .before .before .before in (screens (call .before .before .before .before .if1 .taken) (call .run-screen .ensures .0) refl refl, call .run-screen .ensures .1)
+returns c =
+    let call = c .before .before .before in
+    (screens (call .before .before .before .before .if1 .taken) (call .run-screen .ensures .0) refl refl, call .run-screen .ensures .1)
 
 run-out-requires : tie.Need-run-out-requires
 run-out-requires c κs = search needs
@@ -34,7 +36,9 @@ same-length-6 : tie.Need-same-length-6
 same-length-6 c = search needs
 
 returns-2 : tie.Need-returns-2
-returns-2 c = let call = c .before .before .before .before .before in (takes-out (call .before .before .before .before .if2 .taken) (call .run-out .ensures .0) refl refl, call .run-out .ensures .1)
+returns-2 c =
+    let call = c .before .before .before .before .before in
+    (takes-out (call .before .before .before .before .if2 .taken) (call .run-out .ensures .0) refl refl, call .run-out .ensures .1)
 
 run-read-requires : tie.Need-run-read-requires
 run-read-requires c κs = search needs
@@ -49,7 +53,9 @@ same-length-9 : tie.Need-same-length-9
 same-length-9 c = search needs
 
 returns-3 : tie.Need-returns-3
-returns-3 c = let call = c .before .before .before in (reads (call .before .before .before .before .if3 .taken) (call .run-read .ensures .0) refl, call .run-read .ensures .1)
+returns-3 c =
+    let call = c .before .before .before in
+    (reads (call .before .before .before .before .if3 .taken) (call .run-read .ensures .0) refl, call .run-read .ensures .1)
 
 run-meters-requires : tie.Need-run-meters-requires
 run-meters-requires c κs = search needs
@@ -58,7 +64,9 @@ same-length-10 : tie.Need-same-length-10
 same-length-10 c = search needs
 
 returns-4 : tie.Need-returns-4
-returns-4 c = let call = c .before in (meters (call .before .before .if4 .taken) (call .run-meters .ensures .0) refl refl, call .run-meters .ensures .1)
+returns-4 c =
+    let call = c .before in
+    (meters (call .before .before .if4 .taken) (call .run-meters .ensures .0) refl refl, call .run-meters .ensures .1)
 
 dump-requires : tie.Need-dump-requires
 dump-requires c κs = search needs
@@ -76,7 +84,10 @@ returns-5 : tie.Need-returns-5
 returns-5 c = (dumps (c .before .before .before .before .if5 .taken) refl refl refl refl, omega arith)
 
 returns-6 : tie.Need-returns-6
-returns-6 c = (none (c .before .before .before .before .if1 .left) (c .before .before .before .if2 .left) (c .before .before .if3 .left) (c .before .if4 .left) (c .if5 .left) refl refl refl refl, omega arith)
+returns-6 c =
+    let third = c .before .before in
+    let second = third .before in
+    (none (second .before .if1 .left) (second .if2 .left) (third .if3 .left) (c .before .if4 .left) (c .if5 .left) refl refl refl refl, omega arith)
 
 pub run-call-spec : {M : Type 1} → statement M
 run-call-spec =

@@ -19,7 +19,10 @@ number-at-requires-3 : tie.Need-number-at-requires-3
 number-at-requires-3 c κs = search needs
 
 returns : tie.Need-returns
-returns c = (bad (three-bad (c .before .before .before .before .number-at .ensures) (c .before .before .before .number-at2 .ensures) (c .before .before .number-at3 .ensures) (c .if1 .taken)) refl refl, omega arith)
+returns c =
+    let asked = c .before .before in
+    let a = asked .before .before .number-at .ensures in
+    (bad (three-bad a (asked .before .number-at2 .ensures) (asked .number-at3 .ensures) (c .if1 .taken)) refl refl, omega arith)
 
 sub-take-out : tie.Need-sub-take-out
 sub-take-out c = search needs
@@ -76,8 +79,12 @@ returns-2 c =
     let g = three-good a b k (call .before .before .before .before .if1 .left) in
     let taken = call .take-out in
     let start = asked .before .before .before .before .before .before in
-    let n = asked .number-at3 .result .value in (
-      ran (g .fine) (g .end-is) (called-as TakeEnds (g .third-is) (called (TakeEnds n) (taken .result) (part-lent (start .pre .1) (taken .kept .0)) (part-lent (a .few) (taken .kept .1 .0)) (part-lent (b .few) (taken .kept .1 .1 .0)) (g .both .first-is) (g .both .second-is) (taken .ensures))),
+    let n = asked .number-at3 .result .value in
+    let book = part-lent (start .pre .1) (taken .kept .0) in
+    let flow = part-lent (a .few) (taken .kept .1 .0) in
+    let table = part-lent (b .few) (taken .kept .1 .1 .0) in
+    let out = called (TakeEnds n) (taken .result) book flow table (g .both .first-is) (g .both .second-is) (taken .ensures) in (
+      ran (g .fine) (g .end-is) (called-as TakeEnds (g .third-is) out),
       k .within,
     )
 

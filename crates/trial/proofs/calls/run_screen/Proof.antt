@@ -16,7 +16,9 @@ number-at-requires-2 : tie.Need-number-at-requires-2
 number-at-requires-2 c κs = search needs
 
 returns : tie.Need-returns
-returns c = (bad (both-bad (c .before .before .before .number-at .ensures) (c .before .before .number-at2 .ensures) (c .if1 .taken)) refl refl, omega arith)
+returns c =
+    let asked = c .before .before in
+    (bad (both-bad (asked .before .number-at .ensures) (asked .number-at2 .ensures) (c .if1 .taken)) refl refl, omega arith)
 
 sub-screen : tie.Need-sub-screen
 sub-screen c = search needs
@@ -67,8 +69,10 @@ returns-2 c =
     let a = asked .before .number-at .ensures in
     let b = asked .number-at2 .ensures in
     let g = both-good a b (call .before .before .before .before .if1 .left) in
-    let screened = call .screen in (
-      ran (g .fine) (g .end-is) (called ScreenEnds (screened .result) part-read (part-lent (a .few) (screened .kept .1 .0)) (part-lent (b .few) (screened .kept .1 .1 .0)) (g .first-is) (g .second-is) (screened .ensures)),
+    let screened = call .screen in
+    let flow = part-lent (a .few) (screened .kept .1 .0) in
+    let table = part-lent (b .few) (screened .kept .1 .1 .0) in (
+      ran (g .fine) (g .end-is) (called ScreenEnds (screened .result) part-read flow table (g .first-is) (g .second-is) (screened .ensures)),
       b .within,
     )
 

@@ -1,6 +1,5 @@
 -- `head_of` reads three numbers, of which none has a limit of its own.
 use borrow.Author.Needs.{needs}
-use native.Mathlib.Omega.{arith}
 use Rattle.trial.proofs.NumbersInTurn.{three-end, three-fine}
 use Rattle.trial.proofs.tables.head_of.Statement.{statement}
 use Rattle.trial.proofs.tables.head_of.Tie as tie

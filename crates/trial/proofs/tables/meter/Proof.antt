@@ -1,7 +1,6 @@
 -- `meter` hands on the four lists, which stand one after another among the readings.
 use borrow.Author.Needs.{needs}
-use native.Mathlib.Omega.{arith}
-use Rattle.trial.proofs.MeterCommand.{registers-are}
+use Rattle.trial.proofs.MeterCommand.{registers-are, metered-as}
 use Rattle.trial.proofs.tables.meter.Statement.{statement}
 use Rattle.trial.proofs.tables.meter.Tie as tie
 
@@ -67,7 +66,8 @@ returns c =
     let made = c .before in
     let filled = made .before .before .before .before .before .before .before in
     let start = filled .before .before in
-    rw (registers-are (start .args .rest .now) (start .args .supply) (start .pre .0) (filled .readings-of .ensures)) at (made .injections .ensures)
+    let lists = registers-are (start .args .rest .now) (start .args .supply) (start .pre .0) (filled .readings-of .ensures) in
+    metered-as lists (made .injections .ensures)
 
 pub meter-spec : {M : Type 1} → statement M
 meter-spec =

@@ -33,14 +33,19 @@ returns-2 : tie.Need-returns-2
 returns-2 c =
     let whole = c .before .before .before .before .before in
     let start = whole .before .before in
-    (bad (meters-beyond (start .args .rest .now) (length (start .args .injections .now)) (whole .if1 .left) (c .before .before .wide .ensures .0) (c .if2 .taken)) refl refl, omega arith)
+    let n = c .before .before .wide .ensures .0 in
+    let stops = meters-beyond (start .args .rest .now) (length (start .args .injections .now)) (whole .if1 .left) n (c .if2 .taken) in
+    (bad stops refl refl, omega arith)
 
 returns-3 : tie.Need-returns-3
 returns-3 c =
     let held = c .before .before in
     let lists = held .before .before .before .lists-of .ensures in
-    let start = held .before .before .before .before .before .before in
-    (bad (meters-cut (start .args .rest .now) (length (start .args .injections .now)) (held .before .before .before .before .if1 .left) (held .before .wide .ensures .0) (c .before .if2 .left) lists (c .if3 .taken)) refl refl, omega arith)
+    let whole = held .before .before .before .before in
+    let start = whole .before .before in
+    let room = length (start .args .injections .now) in
+    let n = held .before .wide .ensures .0 in
+    (bad (meters-cut (start .args .rest .now) room (whole .if1 .left) n (c .before .if2 .left) lists (c .if3 .taken)) refl refl, omega arith)
 
 shared-slice-read-wide-2 : tie.Need-shared-slice-read-wide-2
 shared-slice-read-wide-2 c = search needs
@@ -78,16 +83,21 @@ same-length c = search needs
 returns-4 : tie.Need-returns-4
 returns-4 c =
     let call = c .before .before .before .before .before .before in
-    let whole = call .before .before .before .before in
-    let held = whole .before .before in
+    let last = call .before .before .before .before in
+    let held = last .before .before in
     let lists = held .before .before .before .lists-of .ensures in
     let n = held .before .wide .ensures .0 in
-    let start = held .before .before .before .before .before .before in (
+    let whole = held .before .before .before .before in
+    let start = whole .before .before in
+    let rest = start .args .rest .now in
+    let fits = last .before .if2 .left in
+    let lent = part-lent fits (call .meter .kept .1 .1 .1 .0) in
+    let supply = call .before .before .wide2 .ensures .0 in (
       ran
-          (meters-fine (start .args .rest .now) (length (start .args .injections .now)) (held .before .before .before .before .if1 .left) n (whole .before .if2 .left) lists (whole .if3 .left))
+          (meters-fine rest (length (start .args .injections .now)) (whole .if1 .left) n fits lists (last .if3 .left))
           (meters-size lists)
-          (metered-into (call .meter .result) (registersIn (start .args .rest .now)) (part-lent (whole .before .if2 .left) (call .meter .kept .1 .1 .1 .0)) n (call .before .before .wide2 .ensures .0) (call .meter .ensures)),
-      whole .if3 .left,
+          (metered-into (call .meter .result) (registersIn rest) lent n supply (call .meter .ensures)),
+      last .if3 .left,
     )
 
 pub run-meters-spec : {M : Type 1} → statement M

@@ -15,7 +15,9 @@ number-at-requires-2 : tie.Need-number-at-requires-2
 number-at-requires-2 c κs = search needs
 
 returns : tie.Need-returns
-returns c = (bad (both-bad (c .before .before .before .number-at .ensures) (c .before .before .number-at2 .ensures) (c .if1 .taken)) refl (refl, refl), omega arith)
+returns c =
+    let asked = c .before .before in
+    (bad (both-bad (asked .before .number-at .ensures) (asked .number-at2 .ensures) (c .if1 .taken)) refl (refl, refl), omega arith)
 
 sub-read-book : tie.Need-sub-read-book
 sub-read-book c = search needs
@@ -76,8 +78,14 @@ returns-2 c =
     let b = asked .number-at2 .ensures in
     let g = both-good a b (call .before .before .before .before .if1 .left) in
     let read = call .read-book in
-    let start = asked .before .before .before .before .before in (
-      ran (g .fine) (g .end-is) (read-into (read .result) (start .args .book .now) (start .args .bytes) (part-lent (a .few) (read .kept .1 .0)) (part-lent (b .few) (read .kept .1 .1 .0)) (g .first-is) (g .second-is) (read .ensures)),
+    let start = asked .before .before .before .before .before in
+    let book = start .args .book .now in
+    let injections = part-lent (a .few) (read .kept .1 .0) in
+    let branches = part-lent (b .few) (read .kept .1 .1 .0) in (
+      ran
+          (g .fine)
+          (g .end-is)
+          (read-into (read .result) book (start .args .bytes) injections branches (g .first-is) (g .second-is) (read .ensures)),
       b .within,
     )
 

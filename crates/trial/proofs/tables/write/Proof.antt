@@ -1,8 +1,6 @@
 -- `write` leaves the written book and its length, or nothing changed and the length that there was: both are within the space.
 use borrow.Author.Needs.{needs}
 use native.Mathlib.Omega.{arith}
-use Prim.Native.Nat.{_≤_}
-use lib.ListN.{length}
 use borrow.Rule.Slice.PartMut.{mid-len}
 use Rattle.answer.proofs.Refusals.{not-accepted}
 use Rattle.trial.proofs.LentFromStart.{part-lent, written-into, not-written}
@@ -38,10 +36,14 @@ returns : tie.Need-returns
 returns c =
     let wrote = c .before .before .before .before .before in
     let start = wrote .before .before .before .before in
-    not-written _ (wrote .write-book .result) (part-lent (start .pre .0) (wrote .write-book .kept .1 .1 .1 .1 .1 .0)) (wrote .write-book .ensures) (not-accepted _ (c .match .keys2)) (start .pre .1)
+    let call = wrote .write-book in
+    let lent = part-lent (start .pre .0) (call .kept .1 .1 .1 .1 .1 .0) in
+    not-written _ (call .result) lent (call .ensures) (not-accepted _ (c .match .keys2)) (start .pre .1)
 
 bytes-for-requires : tie.Need-bytes-for-requires
-bytes-for-requires c κs = let w = written (c .before .before .before .before .before .before .write-book .ensures) (c .enum-told .given .1) in (omega (arith, w .range .few-buses), omega (arith, w .range .few-branches))
+bytes-for-requires c κs =
+    let w = written (c .before .before .before .before .before .before .write-book .ensures) (c .enum-told .given .1) in
+    (omega (arith, w .range .few-buses), omega (arith, w .range .few-branches))
 
 same-length-2 : tie.Need-same-length-2
 same-length-2 c = search needs
@@ -51,9 +53,12 @@ returns-2 c =
     let wrote = c .before .before .before .before .before .before .before in
     let start = wrote .before .before .before .before in
     let accepted = c .before .enum-told .given .1 in
-    let w = written (wrote .write-book .ensures) accepted in
-    let room : start .args .room ≤ length (start .args .book .now) = start .pre .0 in
-    written-into _ (wrote .write-book .result) (part-lent room (wrote .write-book .kept .1 .1 .1 .1 .1 .0)) (wrote .write-book .ensures) accepted (c .bytes-for .ensures) (omega (arith, w .fits, mid-len 0 (start .args .room) (start .args .book .now) room, c .bytes-for .ensures))
+    let call = wrote .write-book in
+    let w = written (call .ensures) accepted in
+    let lent = part-lent (start .pre .0) (call .kept .1 .1 .1 .1 .1 .0) in
+    let part = mid-len 0 (start .args .room) (start .args .book .now) (start .pre .0) in
+    let bytes = c .bytes-for .ensures in
+    written-into _ (call .result) lent (call .ensures) accepted bytes (omega (arith, w .fits, part, start .pre .0, bytes))
 
 pub write-spec : {M : Type 1} → statement M
 write-spec =
