@@ -32,7 +32,7 @@ returns c =
     let spaced = hexes .before .before .before .before in
     let numbered = spaced .before .before .before .before .before in
     let named = numbered .before .before .before .before in
-    let bytes = added-then (hexes .put-hexes .ensures .0) (written .write-line .ensures) in
+    let bytes = added-then (hexes .put-hexes .ensures .0) (written .write-line .ensures .0) in
     added-then (named .put .ensures) (added-then (numbered .put-next .ensures .0) (added-then (spaced .put2 .ensures) bytes))
 
 pub hex-line-spec : {M : Type 1} → statement M
