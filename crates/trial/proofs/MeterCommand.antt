@@ -1,5 +1,5 @@
 -- The command `M`: when it is good, and which registers the readings that stand one after another in it are.
-use mathlib.Core.Path.{_≡_, refl, sym, ap, _∙_}
+use mathlib.Core.Path.{_≡_, refl, sym, _∙_}
 use mathlib.Core.Bool.{true, false}
 use mathlib.Core.List.{List}
 use Prim.Native.Nat.{ℕ, _+_, _-_, _*_, _<_, _≤_}
@@ -7,7 +7,7 @@ use native.Mathlib.Omega.{arith}
 use borrow.Author.Tests.{lt-leb, le-leb}
 use borrow.Rule.Slice.PartMut.{midOf, mid-len}
 use lib.IntN.{ℤ}
-use lib.ListN.{length, getD, take, drop, replicate}
+use lib.ListN.{length, drop, replicate}
 use lib.Seq.{getD-take, getD-drop, ext-getD}
 use Rattle.rows.specs.Row.{nth, upTo, headed}
 use Rattle.rows.proofs.Row.{length-upTo, getD-upTo, length-headed, headed-at}

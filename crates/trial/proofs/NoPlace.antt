@@ -1,5 +1,5 @@
 -- A command that sets no place leaves the spaces as they were, so that the call after it starts from these.
-use mathlib.Core.Path.{_≡_, refl, sym}
+use mathlib.Core.Path.{_≡_}
 use mathlib.Core.Bool.{Bool, true, false, cond}
 use mathlib.Core.List.{List}
 use Prim.Native.Nat.{ℕ, suc}

@@ -1,7 +1,7 @@
 // Commands that make a call and write its answer: `S` and `O` here, the others in `tables`. Each answers how many bytes of the stream it took, and 0
 // where it is bad.
 ghost use mathlib.Core.Path.{_≡_};
-ghost use Prim.Native.Nat.{_*_, _<_, _≤_};
+ghost use Prim.Native.Nat.{_<_, _≤_};
 ghost use lib.ListN.{length};
 ghost use Rattle.state.specs.Call.{lent};
 ghost use Rattle.trial.specs.Inside.{Sized};
@@ -13,6 +13,7 @@ use crate::numbers::number_at;
 use crate::tables::run_meters;
 use crate::tables::run_read;
 
+// `S`.
 fn run_screen(rest: &[u8], book: &[u8], bytes: usize, flow: &mut [i32], table: &mut [u8]) -> usize
     requires { ⌜ (0 < length (now rest)) × (bytes ≤ length (now book)) ⌝ }
     ensures { λ r. ⌜ ScreenRun (now (rest .entry)) bytes (lent (now (book .entry)) (now (flow .entry)) (now (table .entry))) (lent (now (book .entry)) (now (flow .exit)) (now (table .exit))) r ⌝ }
@@ -30,6 +31,7 @@ fn run_screen(rest: &[u8], book: &[u8], bytes: usize, flow: &mut [i32], table: &
     b.end
 }
 
+// `O`.
 fn run_out(rest: &[u8], book: &mut [u8], bytes: usize, flow: &mut [i32], table: &mut [u8]) -> usize
     requires { ⌜ (0 < length (now rest)) × (bytes ≤ length (now book)) ⌝ }
     ensures { λ r. ⌜ OutRun (now (rest .entry)) bytes (lent (now (book .entry)) (now (flow .entry)) (now (table .entry))) (lent (now (book .exit)) (now (flow .exit)) (now (table .exit))) r ⌝ }

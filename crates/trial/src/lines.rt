@@ -2,7 +2,7 @@
 // How long its text is comes back.
 ghost use mathlib.Core.List.{[], _∷_, _++_};
 ghost use mathlib.Core.Path.{_≡_};
-ghost use Prim.Native.Nat.{_+_, _*_, _<_, _≤_};
+ghost use Prim.Native.Nat.{_+_, _*_, _≤_};
 ghost use lib.ListN.{length};
 ghost use Rattle.line.specs.Text.{nextOf, numbersOf, signedsOf, hexesOf};
 ghost use Rattle.line.specs.AnswerText.{answerText};
