@@ -6,10 +6,15 @@ ghost use Rattle.line.specs.Text.{decimalOf, signedOf, hexOf, nextOf, nu
 ghost use Rattle.line.specs.Inside.{Added};
 
 mod answers;
+mod whole;
 mod writing;
 
 pub use answers::put_answer;
 pub use answers::put_group;
+pub use whole::answer_line;
+pub use whole::hex_line;
+pub use whole::numbers_line;
+pub use whole::signed_line;
 pub use writing::write_line;
 
 fn put_byte(out: &mut [u8], at: usize, byte: u8) -> usize

@@ -1,2 +1,4 @@
 pub mod SetOrUnchanged
 pub mod Signed
+pub mod AskedNumber
+pub mod NumbersInTurn

@@ -1,2 +1,3 @@
 pub mod InsideStream
 pub mod InsideSpaces
+pub mod InsideNumbers

@@ -6,8 +6,11 @@ ghost use Rattle.rows.specs.Row.{nth};
 ghost use Rattle.spaces.specs.InsideStream.{fourAt, signedFrom};
 ghost use Rattle.spaces.specs.InsideSpaces.{Spoilt, BookSet, PlaceSet, PlacesSet};
 
+mod numbers;
 mod stream;
 
+pub use numbers::Number;
+pub use numbers::number_at;
 use rows::two;
 pub use stream::four;
 use stream::signed;

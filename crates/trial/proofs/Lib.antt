@@ -1,7 +1,3 @@
-pub mod AskedNumber
-pub mod LentFromStart
-pub mod MeterCommand
+pub mod CalledOnParts
 pub mod MovedToFront
 pub mod NoPlace
-pub mod NumbersInTurn
-pub mod Written

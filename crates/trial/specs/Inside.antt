@@ -1,33 +1,38 @@
--- Contracts of inner functions: a number of a command, the lengths of the spaces, what is left of the stream.
+-- What is left of the stream, and what one command does.
 use mathlib.Core.Path.{_≡_}
-use mathlib.Core.Bool.{Bool, cond, _&&_}
 use mathlib.Core.List.{List}
-use Prim.Native.Nat.{ℕ, _+_, _-_, _≤_}
-use lib.Dec.{leb}
+use Prim.Native.Nat.{ℕ, _+_, _-_, _<_, _≤_}
+use lib.IntN.{ℤ}
 use lib.ListN.{length, take, drop}
-use Rattle.rows.specs.Row.{twoAt}
-use Rattle.trial.specs.declared.numbers.Number.{Number}
-
--- The place is not the one after a bad number, the stream has both bytes, and the number is not above the most that it may be.
-abbrev pub good : List ℕ → ℕ → ℕ → Bool
-good rest at most = leb 1 at && (leb (at + 2) (length rest) && leb (twoAt rest at) most)
-
--- A good number and the place after it, and 0 for both where it is bad: either way within the most and within the stream.
-pub record Asked (rest : List ℕ) (at most : ℕ) (r : Number) : Type 0 where
-  pub value-is : r .value ≡ cond (good rest at most) (twoAt rest at) 0
-  pub end-is : r .end ≡ cond (good rest at most) (at + 2) 0
-  pub few : r .value ≤ most
-  pub within : r .end ≤ length rest
-
-pub record Sized (book flow table injections branches : ℕ) : Type 0 where
-  pub book-is : book ≡ 2100
-  pub flow-is : flow ≡ 256
-  pub table-is : table ≡ 13312
-  pub injections-is : injections ≡ 128
-  pub branches-is : branches ≡ 1280
+use Rattle.rows.specs.Row.{nth}
+use Rattle.verdict.specs.Update.{Lent}
+use Rattle.spaces.specs.declared.Next.{Next}
+use Rattle.spaces.specs.InsideSpaces.{Spoilt, BookSet, PlacesSet}
+use Rattle.tables.specs.Inside.{WriteRun}
+use Rattle.trial.specs.InsideCalls.{CallRun}
 
 -- What stood from a to e in the input now stands from a′ on, with more after it up to e′.
 pub record Refilled (input : List ℕ) (a e : ℕ) (input′ : List ℕ) (a′ e′ : ℕ) : Type 0 where
   pub more : a′ + (e - a) ≤ e′
   pub inside : e′ ≤ length input′
   pub kept : take (e - a) (drop a′ input′) ≡ take (e - a) (drop a input)
+
+-- One command, on all spaces: the letter says which. A letter that sets no place, or a bad place, is left to the calls.
+pub data CommandRun (rest : List ℕ) (bytes : ℕ) (before after : Lent)
+    (injections injections′ : List ℤ) (branches branches′ : List ℕ) (r : Next) : Type 0 where
+  spoils : nth rest 0 ≡ 80 → r .taken ≡ 1 → r .bytes ≡ 0 → Spoilt (after .book) (after .flow) (after .table) injections′ branches′
+      → CommandRun rest bytes before after injections injections′ branches branches′ r
+  sets-book : nth rest 0 ≡ 66 → BookSet rest (before .book) bytes (after .book) r
+      → after .flow ≡ before .flow → after .table ≡ before .table → injections′ ≡ injections → branches′ ≡ branches
+      → CommandRun rest bytes before after injections injections′ branches branches′ r
+  writes : nth rest 0 ≡ 87 → WriteRun rest injections branches (before .book) bytes (after .book) r
+      → after .flow ≡ before .flow → after .table ≡ before .table → injections′ ≡ injections → branches′ ≡ branches
+      → CommandRun rest bytes before after injections injections′ branches branches′ r
+  sets-place : 0 < r .taken
+      → PlacesSet (nth rest 0) rest (before .flow) (before .table) injections branches (after .flow) (after .table) injections′ branches′ (r .taken)
+      → after .book ≡ before .book → r .bytes ≡ bytes
+      → CommandRun rest bytes before after injections injections′ branches branches′ r
+  calls : (nth rest 0 ≡ 80 → ⊥) → (nth rest 0 ≡ 66 → ⊥) → (nth rest 0 ≡ 87 → ⊥)
+      → PlacesSet (nth rest 0) rest (before .flow) (before .table) injections branches (before .flow) (before .table) injections branches 0
+      → CallRun (nth rest 0) rest bytes before after injections injections′ branches branches′ (r .taken) → r .bytes ≡ bytes
+      → CommandRun rest bytes before after injections injections′ branches branches′ r

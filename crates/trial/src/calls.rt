@@ -4,14 +4,13 @@ ghost use mathlib.Core.Path.{_≡_};
 ghost use Prim.Native.Nat.{_<_, _≤_};
 ghost use lib.ListN.{length};
 ghost use Rattle.state.specs.Call.{lent};
-ghost use Rattle.trial.specs.Inside.{Sized};
-ghost use Rattle.trial.specs.InsideCalls.{ScreenRun, OutRun, CallRun};
-use crate::lines::answer_line;
-use crate::lines::hex_line;
-use crate::lines::signed_line;
-use crate::numbers::number_at;
-use crate::tables::run_meters;
-use crate::tables::run_read;
+ghost use Rattle.trial.specs.InsideCalls.{Sized, ScreenRun, OutRun, CallRun};
+use line::answer_line;
+use line::hex_line;
+use line::signed_line;
+use spaces::number_at;
+use tables::run_meters;
+use tables::run_read;
 
 // `S`.
 fn run_screen(rest: &[u8], book: &[u8], bytes: usize, flow: &mut [i32], table: &mut [u8]) -> usize

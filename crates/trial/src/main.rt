@@ -2,13 +2,9 @@
 ghost use Prim.Native.Nat.{_<_, _≤_};
 ghost use lib.ListN.{length};
 ghost use Rattle.state.specs.Call.{lent};
-ghost use Rattle.trial.specs.Inside.{Refilled};
-ghost use Rattle.trial.specs.InsideCalls.{CommandRun};
+ghost use Rattle.trial.specs.Inside.{Refilled, CommandRun};
 
 mod calls;
-mod lines;
-mod numbers;
-mod tables;
 
 use calls::run_call;
 use libc::STDIN_FILENO;

@@ -2,7 +2,7 @@
 use borrow.Author.Needs.{needs}
 use native.Mathlib.Omega.{arith}
 use mathlib.Core.Path.{_≡_, refl}
-use Rattle.trial.specs.InsideCalls.{spoils, sets-book, writes, sets-place, calls}
+use Rattle.trial.specs.Inside.{spoils, sets-book, writes, sets-place, calls}
 use Rattle.trial.proofs.NoPlace.{no-place, call-after}
 use Rattle.trial.proofs.run.Statement.{statement}
 use Rattle.trial.proofs.run.Tie as tie

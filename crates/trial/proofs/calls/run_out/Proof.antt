@@ -3,9 +3,10 @@ use borrow.Author.Needs.{needs}
 use native.Mathlib.Omega.{arith}
 use mathlib.Core.Path.{refl}
 use Rattle.outage.specs.Promise.{TakeEnds}
-use Rattle.trial.specs.InsideCalls.{ran, bad}
-use Rattle.trial.proofs.LentFromStart.{called, called-as, part-lent}
-use Rattle.trial.proofs.NumbersInTurn.{three-bad, three-good}
+use Rattle.tables.specs.Inside.{ran, bad}
+use Rattle.tables.proofs.LentFromStart.{part-lent}
+use Rattle.trial.proofs.CalledOnParts.{called, called-as}
+use Rattle.spaces.proofs.NumbersInTurn.{three-bad, three-good}
 use Rattle.trial.proofs.calls.run_out.Statement.{statement}
 use Rattle.trial.proofs.calls.run_out.Tie as tie
 

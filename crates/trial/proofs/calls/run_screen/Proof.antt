@@ -3,9 +3,10 @@ use borrow.Author.Needs.{needs}
 use native.Mathlib.Omega.{arith}
 use mathlib.Core.Path.{refl}
 use Rattle.screen.specs.Promise.{ScreenEnds}
-use Rattle.trial.specs.InsideCalls.{ran, bad}
-use Rattle.trial.proofs.LentFromStart.{called, part-lent, part-read}
-use Rattle.trial.proofs.NumbersInTurn.{both-bad, both-good}
+use Rattle.tables.specs.Inside.{ran, bad}
+use Rattle.tables.proofs.LentFromStart.{part-lent, part-read}
+use Rattle.trial.proofs.CalledOnParts.{called}
+use Rattle.spaces.proofs.NumbersInTurn.{both-bad, both-good}
 use Rattle.trial.proofs.calls.run_screen.Statement.{statement}
 use Rattle.trial.proofs.calls.run_screen.Tie as tie
 

@@ -1,0 +1,4 @@
+pub mod LentFromStart
+pub mod MeterCommand
+pub mod WriteNumbers
+pub mod Written
