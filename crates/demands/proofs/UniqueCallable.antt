@@ -4,14 +4,13 @@ use mathlib.Core.List.{List}
 use Prim.Native.Nat.{ℕ}
 use Rattle.answer.specs.Answer.{numberOf, shortageOf}
 use Rattle.answer.specs.declared.Answer.{Answer}
-use Rattle.verdict.specs.Case.{out}
 use Rattle.verdict.specs.Update.{Lent}
 use Rattle.screen.specs.Promise.{ScreenEnds}
 use Rattle.outage.specs.Promise.{TakeEnds}
 use Rattle.callable.specs.Promise.{SaidInParts}
-use Rattle.demands.specs.Same.{FreeFlow, FreeTaken, SameResult}
+use Rattle.demands.specs.Same.{FreeFlow, SameResult}
 use Rattle.demands.proofs.Unique.{Each, screens-same}
-use Rattle.demands.proofs.UniqueCalls.{caseOf, Either, Agree, Listed, calls-same}
+use Rattle.demands.proofs.UniqueCalls.{caseOf, AgreeTaken, SameTaken, calls-same}
 
 -- The three parts of two answers are the same, and so is what the answers leave.
 pub record SameParts (same : Answer → Answer → Type 0) (n v : ℕ) (g : List ℕ) (m w : ℕ) (h : List ℕ) : Type 0 where
@@ -22,7 +21,8 @@ pub record SameParts (same : Answer → Answer → Type 0) (n v : ℕ) (g : List
   pub shortages : v ≡ w
   pub groups : g ≡ h
 
-module _ {E F : Answer → Type 0} (same : Answer → Answer → Type 0) (sames : (r s : Answer) → E r → F s → same r s) (answers : (r s : Answer) → same r s → r ≡ s)
+module _ {E F : Answer → Type 0} (same : Answer → Answer → Type 0)
+    (sames : (r s : Answer) → E r → F s → same r s) (answers : (r s : Answer) → same r s → r ≡ s)
     {n v m w : ℕ} {g h : List ℕ} where
   parts-same : SaidInParts E n v g → SaidInParts F m w h → SameParts same n v g m w h
   parts-same x y =
@@ -43,7 +43,5 @@ module _ {before one two : Lent} {n v m w : ℕ} {g h : List ℕ} where
   callable-screens = parts-same _ (λ r s x y. screens-same x y) (λ r s x. x .answers)
 
   pub callable-takes : (b : ℕ) → SaidInParts (TakeEnds b before one) n v g → SaidInParts (TakeEnds b before two) m w h
-      → SameParts
-      (SameResult (out (caseOf before) b) (FreeTaken before b) (Either (Listed before b (one .flow)) (Listed before b (two .flow))) (Agree (Listed before b (one .flow)) (Listed before b (two .flow))) one two)
-      n v g m w h
+      → SameParts (SameTaken before b (AgreeTaken before b one two) one two) n v g m w h
   callable-takes b = parts-same _ (λ r s x y. calls-same x y) (λ r s x. x .answers)

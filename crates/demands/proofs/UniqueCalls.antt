@@ -1,5 +1,5 @@
--- Any two results that the promise of `take_out` allows have the same answer and book and leave the same lent memory, but for the flow numbers that are free,
--- the free reroute bits of records that were written and, from a table that wasn't true, records that only one of the two put on its shortlist.
+-- Any two results that the promise of `take_out` allows have the same answer and book and leave the same lent memory, but for the flow numbers that
+-- are free, the free reroute bits of records that were written and, from a table that wasn't true, records that only one put on its shortlist.
 use mathlib.Core.Path.{_≡_, refl, sym, ap, _∙_}
 use mathlib.Core.Bool.{Bool, true, false, true≢false}
 use mathlib.Core.List.{List}
@@ -50,7 +50,8 @@ module _ (C : Case) (L M : ℕ → Type 0) {before one two : Lent} where
   ]
 
   -- Two true tables renewed from the same one, whatever the lists.
-  renewed-true : ((k : ℕ) → Dec (L k)) → ((k : ℕ) → Dec (M k)) → Renewed C L before one → Renewed C M before two → TrueTable C (one .flow) (one .table) → TrueTable C (two .flow) (two .table)
+  renewed-true : ((k : ℕ) → Dec (L k)) → ((k : ℕ) → Dec (M k)) → Renewed C L before one → Renewed C M before two
+      → TrueTable C (one .flow) (one .table) → TrueTable C (two .flow) (two .table)
       → (k : ℕ) → k < C .branches → Each k → Alike (FreeBit C (Either L M) one two k) (recordAt (one .table) k) (recordAt (two .table) k)
   renewed-true l? m? x y t u k l w = go (l? k) (m? k)
     where
@@ -72,7 +73,8 @@ module _ (C : Case) (L M : ℕ → Type 0) {before one two : Lent} where
         record { answers = e; books = b; flows = flows-below C free z f; beyond = z; records = records; refused-same = λ n. absurd (n a) }
 
 -- Two ends of one call that makes the case D: X and Y are what an accepted one did.
-pub ends-same : {check : Outcome} (C D : Case) (free L M : ℕ → Type 0) {X Y : Type 0} {before one two : Lent} {r s : Answer} → (check ≡ Accepted → Posed D)
+pub ends-same : {check : Outcome} (C D : Case) (free L M : ℕ → Type 0) {X Y : Type 0} {before one two : Lent} {r s : Answer}
+    → (check ≡ Accepted → Posed D)
     → (X → Renewed D L before one) → (Y → Renewed D M before two) → (X → Y → one .book ≡ two .book)
     → (X → Y → (j : ℕ) → j < D .branches → (free j → ⊥) → on (one .flow) j ≡ on (two .flow) j) → ((k : ℕ) → Dec (L k))
     → Ends check C D X before one r → Ends check C D Y before two s → SameResult D free (Either L M) (Agree L M) one two r s
@@ -103,11 +105,22 @@ abbrev pub Listed : Lent → ℕ → List ℤ → ℕ → Type 0
 Listed before b g k = Shortlisted (out (caseIn (before .book)) b) (before .table) (Touched (on (before .flow)) (on g) b) k
 
 pub listed? : (before : Lent) (b : ℕ) (g : List ℤ) (k : ℕ) → Dec (Listed before b g k)
-listed? before b g = shortlisted? (out (caseIn (before .book)) b) (before .table) (Touched (on (before .flow)) (on g) b) (touched? (on (before .flow)) (on g) b)
+listed? before b g =
+    shortlisted? (out (caseIn (before .book)) b) (before .table) (Touched (on (before .flow)) (on g) b) (touched? (on (before .flow)) (on g) b)
+
+-- Both results have k on their shortlists, or neither has.
+abbrev pub AgreeTaken : Lent → ℕ → Lent → Lent → ℕ → Type 0
+AgreeTaken before b one two = Agree (Listed before b (one .flow)) (Listed before b (two .flow))
+
+-- The same result, as far as `agreed`.
+abbrev pub SameTaken : Lent → ℕ → (ℕ → Type 0) → Lent → Lent → Answer → Answer → Type 0
+SameTaken before b agreed one two =
+    SameResult (out (caseOf before) b) (FreeTaken before b) (Either (Listed before b (one .flow)) (Listed before b (two .flow))) agreed one two
 
 module _ {before one two : Lent} {b : ℕ} where
   -- A flow number that both left otherwise is free.
-  free-taken : TakenOut b before one → TakenOut b before two → (j : ℕ) → j < caseOf before .branches → out (caseOf before) b .served j ≡ true → (on (one .flow) j ≡ on (two .flow) j → ⊥) → FreeTaken before b j
+  free-taken : TakenOut b before one → TakenOut b before two → (j : ℕ) → j < caseOf before .branches → out (caseOf before) b .served j ≡ true
+      → (on (one .flow) j ≡ on (two .flow) j → ⊥) → FreeTaken before b j
   free-taken x y j l i d = record {
     left = record { there = l; in-service = i };
     flowing = λ z. d (x .idle z j l ∙ sym (y .idle z j l));
@@ -117,20 +130,23 @@ module _ {before one two : Lent} {b : ℕ} where
       apart : j ≡ b → ⊥
       apart e = true≢false (sym i ∙ ap (out (caseOf before) b .served) e ∙ served-self (caseOf before) b false)
 
-      is-named : (h : ℕ → ℤ) → Fits (out (caseOf before) b) (caseOf before .limit) h → Confined (caseOf before) (on (before .flow)) (recordAt (before .table) b) b h
+      is-named : (h : ℕ → ℤ) → Fits (out (caseOf before) b) (caseOf before .limit) h
+          → Confined (caseOf before) (on (before .flow)) (recordAt (before .table) b) b h
           → (t : Bool) → names (recordAt (before .table) b) j ≡ t → names (recordAt (before .table) b) j ≡ true
       is-named h w c true e = e
       is-named h w c false e = absurd (d (x .confined h w c j l apart e ∙ sym (y .confined h w c j l apart e)))
 
-  flows-taken : TakenOut b before one → TakenOut b before two → (j : ℕ) → j < caseOf before .branches → (FreeTaken before b j → ⊥) → on (one .flow) j ≡ on (two .flow) j
+  flows-taken : TakenOut b before one → TakenOut b before two → (j : ℕ) → j < caseOf before .branches → (FreeTaken before b j → ⊥)
+      → on (one .flow) j ≡ on (two .flow) j
   flows-taken x y j l n =
-      still-same (out (caseOf before) b) (on (one .flow)) (on (two .flow)) (x .updated .fits) (y .updated .fits) j l (out (caseOf before) b .served j) refl
+      still-same (out (caseOf before) b) (on (one .flow)) (on (two .flow)) (x .updated .fits) (y .updated .fits) j l
+      (out (caseOf before) b .served j) refl
       (λ i. stable _ _ (λ d. n (free-taken x y j l i d)))
 
   module _ {r s : Answer} where
     -- From any table.
     pub calls-same : TakeEnds b before one r → TakeEnds b before two s
-        → SameResult (out (caseOf before) b) (FreeTaken before b) (Either (Listed before b (one .flow)) (Listed before b (two .flow))) (Agree (Listed before b (one .flow)) (Listed before b (two .flow))) one two r s
+        → SameTaken before b (AgreeTaken before b one two) one two r s
     calls-same =
         ends-same (caseOf before) (out (caseOf before) b) (FreeTaken before b) (Listed before b (one .flow)) (Listed before b (two .flow))
         (λ c. posed-status _ b _ (posed-book (before .book) (takeable _ _ _ b c .passes .book)))
@@ -138,19 +154,24 @@ module _ {before one two : Lent} {b : ℕ} where
 
     -- From a true table every record is so, whatever the two shortlists.
     pub calls-same-true : TrueTable (caseOf before) (before .flow) (before .table) → TakeEnds b before one r → TakeEnds b before two s → r ≡ accepted
-        → SameResult (out (caseOf before) b) (FreeTaken before b) (Either (Listed before b (one .flow)) (Listed before b (two .flow))) Each one two r s
+        → SameTaken before b Each one two r s
     calls-same-true t x y a =
         let e = calls-same x y .answers in
         let d = take-done x a in
         let d′ = take-done y (sym e ∙ a) in
-        renewed-same (out (caseOf before) b) _ _ (FreeTaken before b) Each e a (d .took .book-is ∙ sym (d′ .took .book-is)) (d .took .updated) (d′ .took .updated) (flows-taken (d .took) (d′ .took))
+        renewed-same (out (caseOf before) b) _ _ (FreeTaken before b) Each e a (d .took .book-is ∙ sym (d′ .took .book-is))
+        (d .took .updated) (d′ .took .updated) (flows-taken (d .took) (d′ .took))
         (renewed-true (out (caseOf before) b) _ _ (listed? before b (one .flow)) (listed? before b (two .flow)) (d .took .updated) (d′ .took .updated)
         (call-true (d .posed-case) (d .took) t) (call-true (d′ .posed-case) (d′ .took) t))
 
 -- ---- The number of losses judged: 0 for a refusal, and one number where the shortlists agree.
-judges-same : (D : Case) (t : List ℕ) (T U : ℕ → Type 0) (n m : ℕ) → ((k : ℕ) → Dec (Shortlisted D t T k)) → ((k : ℕ) → k < D .branches → Agree (Shortlisted D t T) (Shortlisted D t U) k)
+judges-same : (D : Case) (t : List ℕ) (T U : ℕ → Type 0) (n m : ℕ) → ((k : ℕ) → Dec (Shortlisted D t T k))
+    → ((k : ℕ) → k < D .branches → Agree (Shortlisted D t T) (Shortlisted D t U) k)
     → Judges D T t n → Judges D U t m → n ≡ m
-judges-same D t T U n m listed? agree x y = x .count ∙ over-same (D .branches) _ _ _ _ (λ k l. ap (λ (b : Bool). pick b 1) (one k l (listed? k) (D .served k) refl)) ∙ sym (y .count)
+judges-same D t T U n m listed? agree x y =
+    x .count
+    ∙ over-same (D .branches) _ _ _ _ (λ k l. ap (λ (b : Bool). pick b 1) (one k l (listed? k) (D .served k) refl))
+    ∙ sym (y .count)
   where
     one : (k : ℕ) → k < D .branches → Dec (Shortlisted D t T k) → (s : Bool) → D .served k ≡ s → x .judged k ≡ y .judged k
     one k l (yes p) true i = x .if-listed k l p i ∙ sym (y .if-listed k l (agree k l .0 p) i)
@@ -166,12 +187,13 @@ accepted? (accepts c f a o) = yes (is-accepted a)
 
 module _ {before one two : Lent} {b : ℕ} {r s : Taken} where
   pub counted-same : TakeCounted b before one r → TakeCounted b before two s
-      → ((k : ℕ) → k < caseOf before .branches → Agree (Listed before b (one .flow)) (Listed before b (two .flow)) k) → r .judged ≡ s .judged
+      → ((k : ℕ) → k < caseOf before .branches → AgreeTaken before b one two k) → r .judged ≡ s .judged
   counted-same x y agree = go (accepted? (x .ends))
     where
       same : r .answer ≡ s .answer
       same = calls-same (x .ends) (y .ends) .answers
 
       go : Dec (r .answer ≡ accepted) → r .judged ≡ s .judged
-      go (yes a) = judges-same _ (before .table) _ _ (r .judged) (s .judged) (listed? before b (one .flow)) agree (x .judges a) (y .judges (sym same ∙ a))
+      go (yes a) =
+          judges-same _ (before .table) _ _ (r .judged) (s .judged) (listed? before b (one .flow)) agree (x .judges a) (y .judges (sym same ∙ a))
       go (no n) = x .none n ∙ sym (y .none (λ a. n (same ∙ a)))

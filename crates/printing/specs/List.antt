@@ -24,7 +24,7 @@ lineOf text = text ++ (10 ∷ [])
 abbrev pub acceptedText : List ℕ → List ℕ → List ℕ
 acceptedText bs table = lineOf (headText bs) ++ joined (branchesIn bs) (λ k. lineOf (branchText table k))
 
--- A refused book gives one line.
+-- A refused book gives one line: `settled` takes the second text where the answer is accepted, and else the first.
 abbrev pub listText : List ℕ → Answer → List ℕ → List ℕ
 listText bs r table = settled (r .outcome) (lineOf (refusedText r)) (acceptedText bs table)
 
