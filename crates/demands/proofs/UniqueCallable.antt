@@ -10,7 +10,7 @@ use Rattle.outage.specs.Promise.{TakeEnds}
 use Rattle.callable.specs.Promise.{SaidInParts}
 use Rattle.demands.specs.Same.{FreeFlow, SameResult}
 use Rattle.demands.proofs.Unique.{Each, screens-same}
-use Rattle.demands.proofs.UniqueCalls.{caseOf, AgreeTaken, SameTaken, calls-same}
+use Rattle.demands.proofs.UniqueCalls.{lentCase, AgreeTaken, SameTaken, calls-same}
 
 -- The three parts of two answers are the same, and so is what the answers leave.
 pub record SameParts (same : Answer → Answer → Type 0) (n v : ℕ) (g : List ℕ) (m w : ℕ) (h : List ℕ) : Type 0 where
@@ -39,7 +39,7 @@ module _ {E F : Answer → Type 0} (same : Answer → Answer → Type 0)
 
 module _ {before one two : Lent} {n v m w : ℕ} {g h : List ℕ} where
   pub callable-screens : SaidInParts (ScreenEnds before one) n v g → SaidInParts (ScreenEnds before two) m w h
-      → SameParts (SameResult (caseOf before) (FreeFlow (caseOf before)) Each Each one two) n v g m w h
+      → SameParts (SameResult (lentCase before) (FreeFlow (lentCase before)) Each Each one two) n v g m w h
   callable-screens = parts-same _ (λ r s x y. screens-same x y) (λ r s x. x .answers)
 
   pub callable-takes : (b : ℕ) → SaidInParts (TakeEnds b before one) n v g → SaidInParts (TakeEnds b before two) m w h

@@ -97,8 +97,8 @@ ends-same C D F L M p x y b f l? (accepts c h a u) (accepts c′ h′ a′ v) =
     renewed-same D L M F (Agree L M) (said-same a a′) (is-accepted a) (b u v) (x u) (y v) (f u v) (renewed-alike D L M l? (x u) (y v))
 
 -- ---- Taking out.
-abbrev pub caseOf : Lent → Case
-caseOf l = caseIn (l .book)
+abbrev pub lentCase : Lent → Case
+lentCase l = caseIn (l .book)
 
 -- The shortlist of a call that left the flow g.
 abbrev pub Listed : Lent → ℕ → List ℤ → ℕ → Type 0
@@ -115,11 +115,11 @@ AgreeTaken before b one two = Agree (Listed before b (one .flow)) (Listed before
 -- The same result, as far as `agreed`.
 abbrev pub SameTaken : Lent → ℕ → (ℕ → Type 0) → Lent → Lent → Answer → Answer → Type 0
 SameTaken before b agreed one two =
-    SameResult (out (caseOf before) b) (FreeTaken before b) (Either (Listed before b (one .flow)) (Listed before b (two .flow))) agreed one two
+    SameResult (out (lentCase before) b) (FreeTaken before b) (Either (Listed before b (one .flow)) (Listed before b (two .flow))) agreed one two
 
 module _ {before one two : Lent} {b : ℕ} where
   -- A flow number that both left otherwise is free.
-  free-taken : TakenOut b before one → TakenOut b before two → (j : ℕ) → j < caseOf before .branches → out (caseOf before) b .served j ≡ true
+  free-taken : TakenOut b before one → TakenOut b before two → (j : ℕ) → j < lentCase before .branches → out (lentCase before) b .served j ≡ true
       → (on (one .flow) j ≡ on (two .flow) j → ⊥) → FreeTaken before b j
   free-taken x y j l i d = record {
     left = record { there = l; in-service = i };
@@ -128,19 +128,19 @@ module _ {before one two : Lent} {b : ℕ} where
   }
     where
       apart : j ≡ b → ⊥
-      apart e = true≢false (sym i ∙ ap (out (caseOf before) b .served) e ∙ served-self (caseOf before) b false)
+      apart e = true≢false (sym i ∙ ap (out (lentCase before) b .served) e ∙ served-self (lentCase before) b false)
 
-      is-named : (h : ℕ → ℤ) → Fits (out (caseOf before) b) (caseOf before .limit) h
-          → Confined (caseOf before) (on (before .flow)) (recordAt (before .table) b) b h
+      is-named : (h : ℕ → ℤ) → Fits (out (lentCase before) b) (lentCase before .limit) h
+          → Confined (lentCase before) (on (before .flow)) (recordAt (before .table) b) b h
           → (t : Bool) → names (recordAt (before .table) b) j ≡ t → names (recordAt (before .table) b) j ≡ true
       is-named h w c true e = e
       is-named h w c false e = absurd (d (x .confined h w c j l apart e ∙ sym (y .confined h w c j l apart e)))
 
-  flows-taken : TakenOut b before one → TakenOut b before two → (j : ℕ) → j < caseOf before .branches → (FreeTaken before b j → ⊥)
+  flows-taken : TakenOut b before one → TakenOut b before two → (j : ℕ) → j < lentCase before .branches → (FreeTaken before b j → ⊥)
       → on (one .flow) j ≡ on (two .flow) j
   flows-taken x y j l n =
-      still-same (out (caseOf before) b) (on (one .flow)) (on (two .flow)) (x .updated .fits) (y .updated .fits) j l
-      (out (caseOf before) b .served j) refl
+      still-same (out (lentCase before) b) (on (one .flow)) (on (two .flow)) (x .updated .fits) (y .updated .fits) j l
+      (out (lentCase before) b .served j) refl
       (λ i. stable _ _ (λ d. n (free-taken x y j l i d)))
 
   module _ {r s : Answer} where
@@ -148,20 +148,20 @@ module _ {before one two : Lent} {b : ℕ} where
     pub calls-same : TakeEnds b before one r → TakeEnds b before two s
         → SameTaken before b (AgreeTaken before b one two) one two r s
     calls-same =
-        ends-same (caseOf before) (out (caseOf before) b) (FreeTaken before b) (Listed before b (one .flow)) (Listed before b (two .flow))
+        ends-same (lentCase before) (out (lentCase before) b) (FreeTaken before b) (Listed before b (one .flow)) (Listed before b (two .flow))
         (λ c. posed-status _ b _ (posed-book (before .book) (takeable _ _ _ b c .passes .book)))
         (λ o. o .updated) (λ o. o .updated) (λ o u. o .book-is ∙ sym (u .book-is)) flows-taken (listed? before b (one .flow))
 
     -- From a true table every record is so, whatever the two shortlists.
-    pub calls-same-true : TrueTable (caseOf before) (before .flow) (before .table) → TakeEnds b before one r → TakeEnds b before two s → r ≡ accepted
+    pub calls-same-true : TrueTable (lentCase before) (before .flow) (before .table) → TakeEnds b before one r → TakeEnds b before two s → r ≡ accepted
         → SameTaken before b Each one two r s
     calls-same-true t x y a =
         let e = calls-same x y .answers in
         let d = take-done x a in
         let d′ = take-done y (sym e ∙ a) in
-        renewed-same (out (caseOf before) b) _ _ (FreeTaken before b) Each e a (d .took .book-is ∙ sym (d′ .took .book-is))
+        renewed-same (out (lentCase before) b) _ _ (FreeTaken before b) Each e a (d .took .book-is ∙ sym (d′ .took .book-is))
         (d .took .updated) (d′ .took .updated) (flows-taken (d .took) (d′ .took))
-        (renewed-true (out (caseOf before) b) _ _ (listed? before b (one .flow)) (listed? before b (two .flow)) (d .took .updated) (d′ .took .updated)
+        (renewed-true (out (lentCase before) b) _ _ (listed? before b (one .flow)) (listed? before b (two .flow)) (d .took .updated) (d′ .took .updated)
         (call-true (d .posed-case) (d .took) t) (call-true (d′ .posed-case) (d′ .took) t))
 
 -- ---- The number of losses judged: 0 for a refusal, and one number where the shortlists agree.
@@ -187,7 +187,7 @@ accepted? (accepts c f a o) = yes (is-accepted a)
 
 module _ {before one two : Lent} {b : ℕ} {r s : Taken} where
   pub counted-same : TakeCounted b before one r → TakeCounted b before two s
-      → ((k : ℕ) → k < caseOf before .branches → AgreeTaken before b one two k) → r .judged ≡ s .judged
+      → ((k : ℕ) → k < lentCase before .branches → AgreeTaken before b one two k) → r .judged ≡ s .judged
   counted-same x y agree = go (accepted? (x .ends))
     where
       same : r .answer ≡ s .answer
