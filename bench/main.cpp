@@ -1,9 +1,9 @@
-// Three measurements in one run, printed as tables: whole screens beside the peers, outage calls beside fresh
+// Four measurements in one run, printed as tables: whole screens beside the peers, outage calls and returns beside fresh
 // screens, and growth with the number of buses. Everything is run once in each round, so that a busy machine slows
 // all alike, and the least time of all rounds counts.
+#include "calls.hpp"
 #include "compare.hpp"
 #include "make.hpp"
-#include "outages.hpp"
 
 #include <cstdio>
 #include <cstdlib>
@@ -33,16 +33,17 @@ void print_screens(const std::vector<Comparison> &all) {
     }
 }
 
-void print_outages(const std::vector<Outages> &books) {
-    std::printf("\n## Outage calls\n\nEach branch that can be taken out is, from the same screen. Time: the call's over a "
-                "fresh screen's of the book that it leaves. Share: of the shortlist among all records.\n\n");
+void print_calls(const char *title, const std::vector<Calls> &books) {
+    std::printf("\n## %s Time: the call's over a fresh screen's of the book that it leaves. Share: of the records "
+                "that it writes among all records.\n\n",
+                title);
     std::printf("| Book | Calls | Mean share | Mean time | Worst time less share | Its share | Its time |\n"
                 "|---|---|---|---|---|---|---|\n");
-    for (const Outages &book : books) {
+    for (const Calls &book : books) {
         if (book.all().empty()) continue;
         double count = book.all().size(), share = 0, time = 0;
-        const Outage *worst = &book.all().front();
-        for (const Outage &one : book.all()) {
+        const Call *worst = &book.all().front();
+        for (const Call &one : book.all()) {
             share += one.share / count;
             time += one.time() / count;
             if (one.above() > worst->above()) worst = &one;
@@ -78,16 +79,22 @@ int main(int count, char **words) {
     auto screens = each<Comparison>(largest());
     auto loose = each<Comparison>(growing(Ratings::loose));
     auto tight = each<Comparison>(growing(Ratings::tight));
-    auto calls = each<Outages>(largest());
+    std::vector<Calls> outages, returns;
+    for (const Book &book : largest()) {
+        outages.push_back(Calls::outages(book));
+        returns.push_back(Calls::returns(book));
+    }
     for (int i = 0; i < rounds; ++i) {
         round(screens);
         round(loose);
         round(tight);
         // Many calls a book, so that few rounds of them take as long.
-        if (i % 4 == 0) round(calls);
+        if (i % 4 == 0) round(outages);
+        if (i % 4 == 2) round(returns);
     }
     print_screens(screens);
-    print_outages(calls);
+    print_calls("Outage calls\n\nEach branch that can be taken out is, from the same screen.", outages);
+    print_calls("Returns\n\nEach of these branches is brought back, from what its outage left.", returns);
     print_growth("loose mesh", loose);
     print_growth("tight mesh", tight);
 }

@@ -1,4 +1,4 @@
-// The two exported functions: a slice is a pointer and a length.
+// The three exported functions: a slice is a pointer and a length.
 #include "proved.hpp"
 
 #include <algorithm>
@@ -8,6 +8,8 @@ uint8_t callable_screen(const uint8_t *book, size_t bytes, int32_t *flow, size_t
                         uint32_t *shortage, uint8_t *group);
 uint8_t callable_take_out(uint8_t *book, size_t bytes, int32_t *flow, size_t flows, uint8_t *table, size_t length,
                           size_t branch, uint32_t *shortage, uint8_t *group);
+uint8_t callable_bring_back(uint8_t *book, size_t bytes, const int32_t *flow, size_t flows, uint8_t *table,
+                            size_t length, size_t branch, uint32_t *shortage, uint8_t *group);
 }
 
 Answer proved_screen(Lent &lent) {
@@ -23,6 +25,14 @@ Answer proved_take_out(Lent &lent, int branch) {
     answer.number =
         callable_take_out(lent.book.data(), lent.book.size(), lent.flow.data(), lent.flow.size(), lent.table.data(),
                           lent.table.size(), branch, &answer.shortage, answer.group.data());
+    return answer;
+}
+
+Answer proved_bring_back(Lent &lent, int branch) {
+    Answer answer;
+    answer.number =
+        callable_bring_back(lent.book.data(), lent.book.size(), lent.flow.data(), lent.flow.size(), lent.table.data(),
+                            lent.table.size(), branch, &answer.shortage, answer.group.data());
     return answer;
 }
 

@@ -1,12 +1,13 @@
-//! The second opinion: document 01 in plain Rust, sharing nothing with the proved crates.
+//! The second opinion: documents 01 and 02 in plain Rust, sharing nothing with the proved crates.
 //!
 //! A folder imports only from folders named above it here; `tests/folders.rs` holds that.
 
-/// What document 01 defines: books, networks, verdicts, records, calls with their refusals, meters, the list.
+/// What the papers define: books, networks, verdicts, records, calls with their refusals, meters, the list.
 pub mod definitions {
     pub mod answer;
     pub mod bits;
     pub mod book;
+    pub mod comeback;
     pub mod cuts;
     pub mod groups;
     pub mod list;
@@ -17,6 +18,7 @@ pub mod definitions {
     pub mod record;
     pub mod reroutes;
     pub mod screen;
+    pub mod switching;
 }
 
 /// Books to try: those with a name, those of source document 001, random ones, and the text form of any.
@@ -42,16 +44,21 @@ pub mod streams {
     pub mod damage;
     pub mod gate;
     pub mod make;
+    pub mod make_returns;
     pub mod make_tables;
     pub mod stored;
+    pub mod stored_returns;
     pub mod under_way;
 }
 
 /// The judge of a trial's output, the faults planted to try it, and many trials in a row.
 pub mod judging {
+    pub mod accepted;
     pub mod faults;
+    pub mod faults_returns;
     pub mod judge;
     pub mod plant;
+    pub mod run;
     pub mod selftest;
     pub mod tally;
     pub mod trials;

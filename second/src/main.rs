@@ -18,7 +18,7 @@ second store CRATES            writes what the gate gives its programs and expec
 second gate CRATES             holds those files to what this program makes, and judges the stored output of `trial`
 second stream SEED             a random trial stream, to standard output
 second stored                  the stored stream, to standard output
-second print STREAM            what document 01 fixes of the output, `?` where it leaves a choice
+second print STREAM            what the papers fix of the output, `?` where they leave a choice
 second answer STREAM           a whole trial output with our own choice of flows and reroutes
 second judge STREAM OUTPUT     judges the output of a trial
 second try PROGRAM N [SEED]    judges PROGRAM on N random streams (`-` for our own answers)

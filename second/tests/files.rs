@@ -19,3 +19,16 @@ fn stored_files_are_up_to_date() {
     }
     assert_eq!(fs::read(here.join("streams").join("stored.stream")).unwrap(), stored::stream());
 }
+
+/// FNV-1a, so that a stretch of bytes is known again without a copy of it.
+fn fingerprint(bytes: &[u8]) -> u64 {
+    bytes.iter().fold(0xcbf2_9ce4_8422_2325, |hash, &byte| (hash ^ byte as u64).wrapping_mul(0x100_0000_01b3))
+}
+
+#[test]
+fn the_stored_stream_begins_as_it_did_before_returns_came() {
+    // The 12,835 bytes of then end in a bad command of 3 bytes, which stops a stream and so is still the last.
+    let stream = stored::stream();
+    assert_eq!(fingerprint(&stream[..12_832]), 0x358_dbe9_882c_a8b9);
+    assert!(stream.len() > 12_835 && stream.ends_with(b"F\x01\x00"));
+}

@@ -3,10 +3,11 @@
 use second::books::plain::{plain, with_out};
 use second::books::shelf::{largest, second_book, triangle};
 use second::definitions::answer::Answer;
-use second::definitions::book::{length, pack, unpack, Book};
+use second::definitions::book::{length, pack, unpack, with_status, Book};
 use second::definitions::meters::{advance, injections, Registers};
 use second::definitions::network::{limit_in_kw, Excess, Network, Verdict};
-use second::definitions::outage::{allowed, changed_book, own_result, Lent};
+use second::definitions::outage::{allowed, own_result};
+use second::definitions::switching::Lent;
 use second::definitions::{cuts, groups, list, record, screen};
 
 fn short(amount: i64, buses: &[usize]) -> Verdict {
@@ -66,14 +67,13 @@ fn b_triangle_with_branch_0_out() {
 fn fresh(bytes: &[u8]) -> (Vec<i64>, Vec<u8>) {
     let network = screen::screened(bytes, 256, 13312).unwrap();
     let flow = cuts::fitting_flow(&network).unwrap();
-    let mut cutter = cuts::Cutter::new(&network);
-    let table = (0..flow.len()).flat_map(|branch| screen::own_record(&mut cutter, &flow, branch)).collect();
+    let table = screen::own_table(&network, &flow);
     (flow, table)
 }
 
 #[test]
 fn c_then_branch_1_is_refused() {
-    let bytes = changed_book(&pack(&triangle(30)), 0);
+    let bytes = with_status(&pack(&triangle(30)), 0, false);
     assert_eq!(bytes, pack(&with_out(triangle(30), 0)));
     let (flow, table) = fresh(&bytes);
     let answer = allowed(&Lent { book: &bytes, flow: &flow, table: &table }, 1).unwrap_err();

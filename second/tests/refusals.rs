@@ -2,10 +2,13 @@
 
 use second::books::plain::{plain, with_out};
 use second::books::shelf::{largest, too_long, triangle};
-use second::definitions::book::{pack, rows, unpack, write, Book};
+use second::definitions::book::{pack, rows, unpack, with_status, write};
 use second::definitions::meters::{injections, Registers};
-use second::definitions::outage::{allowed, changed_book, Lent};
-use second::definitions::{bits, list, screen};
+use second::definitions::network::Network;
+use second::definitions::outage::allowed;
+use second::definitions::switching::Lent;
+use second::definitions::{bits, comeback, list, screen};
+use second::streams::stored::damaged_books;
 
 fn with_bit(mut bytes: Vec<u8>, place: usize) -> Vec<u8> {
     bytes[place / 8] |= 1 << (7 - place % 8);
@@ -94,6 +97,52 @@ fn an_outage_refuses_8_to_12_in_order() {
     assert_eq!(allowed(&Lent { book: &heavy, flow: &[50], table: &[0; 52] }, 0).unwrap_err().number, 11);
 }
 
+/// The number that a return is answered with; 0 where it is accepted.
+fn returned(book: &[u8], flow: &[i64], room: usize, branch: usize) -> u8 {
+    let table = vec![0; room];
+    let allowed = comeback::allowed(&Lent { book, flow, table: &table }, branch);
+    allowed.err().map_or(0, |answer| {
+        assert_eq!((answer.shortage, answer.group), (0, 0));
+        answer.number
+    })
+}
+
+#[test]
+fn a_return_refuses_1_to_7_first_and_as_reading_does() {
+    let due: Vec<u8> = damaged_books().iter().map(|book| unpack(book).unwrap_err()).collect();
+    let given: Vec<u8> = damaged_books().iter().map(|book| returned(book, &[], 0, 65_535)).collect();
+    assert_eq!(given, due);
+    assert!((1..=7).all(|number| given.contains(&number)));
+}
+
+#[test]
+fn a_return_refuses_8_9_17_and_11_in_order() {
+    let bytes = pack(&with_out(triangle(30), 0));
+    assert_eq!(returned(&bytes, &[9; 2], 156, 3), 8);
+    assert_eq!(returned(&bytes, &[9; 3], 155, 3), 8);
+    assert_eq!(returned(&bytes, &[9; 3], 156, 3), 9);
+    assert_eq!(returned(&bytes, &[9; 3], 156, 65_535), 9);
+    assert_eq!(returned(&bytes, &[9; 3], 156, 1), 17);
+    assert_eq!(returned(&bytes, &[0, 30, -10], 156, 2), 17);
+    assert_eq!(returned(&bytes, &[9; 3], 156, 0), 11);
+    assert_eq!(returned(&bytes, &[0, 30, -9], 156, 0), 11);
+    assert_eq!(returned(&bytes, &[0, 30, -10], 156, 0), 0);
+    assert_eq!(returned(&bytes, &[0, 30, -10, 7], 200, 0), 0);
+}
+
+#[test]
+fn a_return_needs_a_flow_that_fits_before_it() {
+    // This flow would fit with branch 0 in service, and does not as long as it is out.
+    let bytes = pack(&with_out(triangle(30), 0));
+    assert!(Network::of(&triangle(30)).fits(&[10, 20, 0]));
+    assert_eq!(returned(&bytes, &[10, 20, 0], 156, 0), 11);
+    // A book with an excess has no fitting flow, so 12 never comes up; a branch out is no 10.
+    let heavy = pack(&with_out(plain(&[50, -50], &[(0, 1, 20), (0, 1, 40)]), 1));
+    assert_eq!(returned(&heavy, &[20, 0], 104, 1), 11);
+    assert_eq!(returned(&heavy, &[20, 30], 104, 1), 11);
+    assert_eq!(returned(&heavy, &[20, 30], 104, 0), 17);
+}
+
 #[test]
 fn registers_refuse_13_to_16() {
     let number = |lengths: [usize; 4], supply: usize, room: usize, ends: u32| {
@@ -129,13 +178,14 @@ fn long_inputs_are_refused_as_their_bytes_require() {
 }
 
 #[test]
-fn an_outage_clears_one_bit() {
-    let book: Book = largest();
+fn an_outage_clears_one_bit_and_a_return_sets_it() {
+    let book = largest();
     let bytes = pack(&book);
     for branch in [0, 1, 100, 255] {
-        let changed = changed_book(&bytes, branch);
+        let changed = with_status(&bytes, branch, false);
         assert_eq!(changed, pack(&with_out(book.clone(), branch)));
         let differing = (0..8 * bytes.len()).filter(|&place| bits::bit(&bytes, place) != bits::bit(&changed, place));
         assert_eq!(differing.count(), 1);
+        assert_eq!(with_status(&changed, branch, true), bytes);
     }
 }

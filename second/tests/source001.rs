@@ -5,9 +5,10 @@ use second::books::random::Random;
 use second::books::sources::*;
 use second::definitions::book::{pack, Book};
 use second::definitions::network::{Excess, Network, Verdict};
-use second::definitions::outage::{allowed, judge, own_result, shortlist, Lent};
+use second::definitions::outage::{allowed, judge, own_result, shortlist};
 use second::definitions::record;
 use second::definitions::reroutes::{exactly, Exactly};
+use second::definitions::switching::Lent;
 use second::definitions::{cuts, groups, screen};
 
 /// A verdict by both methods; the document's buses count from 1.

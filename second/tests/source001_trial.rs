@@ -28,7 +28,7 @@ fn dumps() -> Vec<Dump> {
     for line in output.lines() {
         let words: Vec<&str> = line.split(' ').collect();
         match words[0] {
-            "screen" | "out" => {
+            "screen" | "out" | "back" => {
                 answer = line.to_string();
                 if let Some(dump) = dumps.last_mut().filter(|dump| dump.next.is_empty()) {
                     dump.next = answer.clone();
@@ -80,6 +80,19 @@ fn five_bus_after_the_loss_of_5_3_branch_4_3_is_short_210_mw() {
     let after = first(&with_out(five_bus(), FIVE_3_5));
     assert_eq!(after.answer, "out 0 0 0");
     assert_eq!(after.records[FIVE_3_4], short(210_000, &[4, 5]));
+}
+
+#[test]
+fn five_bus_once_5_3_is_back_branch_4_3_is_short_30_mw_again() {
+    let dumps = dumps();
+    let (out, whole) = (hex(&pack(&with_out(five_bus(), FIVE_3_5))), hex(&pack(&five_bus())));
+    let place = dumps.iter().position(|dump| dump.book == out && dump.next == "back 0 0 0").expect("5-3 comes back");
+    let (before, after) = (&dumps[place], &dumps[place + 1]);
+    assert_eq!((&after.answer[..], &after.book), ("back 0 0 0", &whole));
+    assert_eq!(after.flow, before.flow);
+    assert_eq!(before.records[FIVE_3_4], short(210_000, &[4, 5]));
+    assert_eq!(after.records[FIVE_3_4], short(30_000, &[4, 5]));
+    assert_eq!(after.records[FIVE_3_5], hex(&record::bytes(Verdict::Carries, &[])));
 }
 
 #[test]

@@ -24,11 +24,13 @@ fn commands_come_back_from_their_bytes() {
 
 #[test]
 fn bad_commands_stop_the_stream() {
-    for bad in [&b"x"[..], b"F\x01\x00\0\0\0\0", b"T\x34\x00\0", b"S\x01\x01\0\0", b"B\x08\x35", b"M\0\0\0\0\x81\0"] {
+    let too_large = [&b"F\x01\x00\0\0\0\0"[..], b"T\x34\x00\0", b"S\x01\x01\0\0", b"B\x08\x35", b"M\0\0\0\0\x81\0"];
+    let returns = [&b"K\x01\x01\0\0\0\0"[..], b"K\0\0\x34\x01\0\0", b"k\0\0\0\0\0\0"];
+    for bad in [&b"x"[..]].into_iter().chain(too_large).chain(returns) {
         assert_eq!(output(bad), "bad command\n");
         assert_eq!(output(&[bad, b"D"].concat()), "bad command\n");
     }
-    for cut_short in [&b"B\x00\x02\x01"[..], b"O\0\0\0\0\0", b"M\x01\x01\x01\x01\x01\0\0\0\0\x05"] {
+    for cut_short in [&b"B\x00\x02\x01"[..], b"O\0\0\0\0\0", b"K\0\0\0\0\0", b"K", b"M\x01\x01\x01\x01\x01\0\0\0\0\x05"] {
         assert_eq!(output(cut_short), "bad command\n");
     }
     assert_eq!(output(b""), "");
@@ -51,9 +53,13 @@ fn the_stored_stream_visits_every_refusal() {
     let stream = stored::stream();
     let (tally, verdict) = judge(&stream, &output(&stream));
     assert_eq!(verdict, Ok(()));
-    for number in 1..=16 {
+    for number in 1..=17 {
         assert!(tally.of(&format!("refused {number:>2}")) > 0, "{number}");
     }
+    for number in [1, 2, 3, 4, 5, 6, 7, 8, 9, 17, 11] {
+        assert!(tally.of(&format!("back refused {number:>2}")) > 0, "{number}");
+    }
+    assert_eq!((tally.of("back refused 10"), tally.of("back refused 12")), (0, 0));
     for kind in [
         "screen accepted, with 128 buses and 256 branches",
         "out accepted, with 128 buses and 256 branches",
@@ -61,6 +67,13 @@ fn the_stored_stream_visits_every_refusal() {
         "out accepted, from an untrue table, its record names the branch itself",
         "out accepted, from an untrue table, its record names bits beyond the count",
         "out accepted, from an untrue table, with records kept",
+        "back accepted, with 128 buses and 256 branches",
+        "back accepted, in a run mixed with outages, from a true table",
+        "back accepted, out and back with nothing else between, all as it was",
+        "back accepted, that turned short records into carrying",
+        "back accepted, from an untrue table, with a record of byte 0 = 1 kept out of service",
+        "back accepted, from an untrue table, with a record kept that names the returned branch",
+        "back accepted, from an untrue table, its own record not all zeros",
         "read accepted",
         "write accepted",
         "meters accepted",
@@ -79,7 +92,7 @@ fn every_refused_call_of_the_stored_stream_is_followed_by_a_dump() {
             refused += 1;
         }
     });
-    assert!(refused > 70, "{refused}");
+    assert!(refused > 100, "{refused}");
 }
 
 /// After a screen another fitting flow and its table are put in place: the branches are taken in another order.

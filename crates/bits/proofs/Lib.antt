@@ -2,3 +2,4 @@ pub mod Low
 pub mod ReadAsPut
 pub mod Window
 pub mod Fields
+pub mod Again

@@ -1,8 +1,9 @@
-// The screen and the outage call under C's calling convention, for programs in other languages to link.
+// The screen, the outage call and the return under C's calling convention, for programs in other languages to link.
 // A slice is a pointer and a length; the answer comes back as its number, its shortage and its group.
 ghost use Rattle.state.specs.Call.{lent};
 ghost use Rattle.screen.specs.Promise.{ScreenEnds};
 ghost use Rattle.outage.specs.Promise.{TakeEnds};
+ghost use Rattle.restore.specs.Promise.{BackEnds};
 ghost use Rattle.callable.specs.Promise.{SaidInParts};
 use answer::number_of;
 use answer::shortage_of;
@@ -37,6 +38,25 @@ pub extern "C" fn callable_take_out(
     ensures { λ r. ⌜ SaidInParts (TakeEnds branch (lent (now (book .entry)) (now (flow .entry)) (now (table .entry))) (lent (now (book .exit)) (now (flow .exit)) (now (table .exit)))) r (now (shortage .exit)) (now (group .exit)) ⌝ }
 {
     let answer = outage::take_out(book, flow, table, branch);
+    let outcome = answer.outcome;
+    let reached = answer.group;
+    *shortage = shortage_of(outcome);
+    *group = reached;
+    number_of(outcome)
+}
+
+#[no_mangle]
+pub extern "C" fn callable_bring_back(
+    book: &mut [u8],
+    flow: &[i32],
+    table: &mut [u8],
+    branch: usize,
+    shortage: &mut u32,
+    group: &mut [u8; 16],
+) -> u8
+    ensures { λ r. ⌜ SaidInParts (BackEnds branch (lent (now (book .entry)) (now (flow .entry)) (now (table .entry))) (lent (now (book .exit)) (now (flow .entry)) (now (table .exit)))) r (now (shortage .exit)) (now (group .exit)) ⌝ }
+{
+    let answer = restore::bring_back(book, flow, table, branch);
     let outcome = answer.outcome;
     let reached = answer.group;
     *shortage = shortage_of(outcome);

@@ -1,19 +1,23 @@
--- An outage call keeps a true table true.
+-- An outage or a return keeps a true table true.
 use mathlib.Core.Path.{_≡_, refl, sym}
 use mathlib.Core.Bool.{false}
 use Prim.Native.Nat.{ℕ}
 use native.Mathlib.Decide.{ℕ-discrete}
 use lib.IntN.{ℤ, ℤ-discrete}
 use mathlib.Core.List.{List}
-use Rattle.verdict.specs.Case.{Case, Posed, out, on}
-use Rattle.verdict.specs.Record.{TrueTable}
+use Rattle.verdict.specs.Case.{Case, Posed, out, back, on}
+use Rattle.verdict.specs.Record.{recordAt, verdictIn, TrueTable}
 use Rattle.verdict.specs.Update.{Lent}
 use Rattle.verdict.proofs.Fitting.{served-other, posed-status}
 use Rattle.verdict.proofs.Keep.{Wired, stable}
 use Rattle.verdict.proofs.Updates.{Untouched, shortlisted?, keep, stays-true}
+use Rattle.verdict.proofs.Back.{keep-back}
 use Rattle.state.specs.Case.{caseIn}
 use Rattle.outage.specs.Promise.{Touched, itself, changed, TakenOut}
+use Rattle.restore.specs.Promise.{Anew, not-carrying, BroughtBack}
+use Rattle.restore.proofs.ToBeWritten.{anew?}
 
+-- ---- An outage.
 pub touched? : (f g : ℕ → ℤ) (b j : ℕ) → Dec (Touched f g b j)
 touched? f g b j = go (ℕ-discrete j b) (ℤ-discrete (f j) (g j))
   where
@@ -41,3 +45,18 @@ call-true {b} {before} {after} p o t =
     (λ k l n r. keep C (out C b) T (before .flow) (after .flow) (before .table) k (wired-out C b) (posed-status C b false p) (t .fits) (o .updated .fits) l
     (λ j u m. untouched C (before .flow) (after .flow) b j m) n r)
     t (o .updated)
+
+-- ---- A return.
+-- A record that isn't written anew has byte 0 = 1.
+carrying : (table : List ℕ) (b k : ℕ) → (Anew table b k → ⊥) → verdictIn (recordAt table k) ≡ 1
+carrying table b k n = elim (ℕ-discrete (verdictIn (recordAt table k)) 1) [ yes v ↦ v | no m ↦ absurd (n (not-carrying m)) ]
+
+-- Every record that isn't written anew is as true of the changed book and of the same flow.
+pub back-true : {b : ℕ} {before after : Lent} → Posed (caseIn (before .book)) → caseIn (before .book) .served b ≡ false → BroughtBack b before after
+    → TrueTable (caseIn (before .book)) (before .flow) (before .table) → TrueTable (back (caseIn (before .book)) b) (after .flow) (after .table)
+back-true {b} {before} {after} p off o t =
+    let C = caseIn (before .book) in
+    stays-true C (back C b) _ before after refl (anew? (before .table) b)
+    (λ k l n r. rw (o .flow-is)
+    (keep-back C b off (on (before .flow)) k (recordAt (before .table) k) p (t .fits) l (carrying (before .table) b k n) r))
+    t (o .renewed)

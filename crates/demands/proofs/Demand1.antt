@@ -1,6 +1,6 @@
 -- Demand 1, over the promises alone: every result of a public call is answered with a number that it may give, and a refusal keeps what was lent.
-use mathlib.Core.Path.{_≡_, refl, ap, _∙_}
-use mathlib.Core.Bool.{true}
+use mathlib.Core.Path.{_≡_, refl, sym, ap, _∙_}
+use mathlib.Core.Bool.{true, false, true≢false}
 use mathlib.Core.List.{List, _∷_}
 use Prim.Native.Nat.{ℕ}
 use lib.IntN.{ℤ}
@@ -20,7 +20,7 @@ use Rattle.book.proofs.ReadOnce.{read-gives, read-answer}
 use Rattle.meters.specs.Registers.{Registers, answerTo}
 use Rattle.meters.specs.Promise.{meterNumbers, Metered}
 use Rattle.meters.proofs.Given.{meter-gives, meter-answer}
-use Rattle.verdict.specs.Case.{Case}
+use Rattle.verdict.specs.Case.{Case, on, Fits}
 use Rattle.verdict.specs.Update.{Lent}
 use Rattle.state.specs.Call as call
 use Rattle.state.specs.Call.{lentNumbers, OverloadSaid, Ends}
@@ -28,7 +28,10 @@ use Rattle.state.proofs.Checked.{lent-gives}
 use Rattle.screen.specs.Promise.{screenCheck, ScreenEnds, refuses, overloads, accepts}
 use Rattle.outage.specs.Promise.{takeNumbers, TakeEnds}
 use Rattle.outage.proofs.Checking.{take-gives}
+use Rattle.restore.specs.Promise.{backNumbers, BackEnds}
+use Rattle.restore.proofs.Checking.{back-gives}
 use Rattle.demands.specs.Answered.{Answered}
+use Rattle.demands.proofs.Ends.{back-never-12}
 
 -- ---- One answer.
 by-checks : (ns ms : List ℕ) (kept : Type 0) (o : Outcome) (r : Answer) → Gives ns o → inside ns ms ≡ true → Said r (numberOf o) 0 noGroup → ((r ≡ accepted → ⊥) → kept) → Answered ms kept r
@@ -47,6 +50,10 @@ by-overload ms kept C r o g h = record {
 
 by-number : (ms : List ℕ) (kept : Type 0) (n : ℕ) (r : Answer) → Said r n 0 noGroup → member n (0 ∷ ms) ≡ true → ((r ≡ accepted → ⊥) → kept) → Answered ms kept r
 by-number ms kept n r s g h = record { given = rw (s .number-is) g; silent = λ _. rw (s .number-is) s; refused-keeps = h }
+
+-- A number outside the list is never given.
+never : {ms : List ℕ} {kept : Type 0} {r : Answer} → Answered ms kept r → (n : ℕ) → member n (0 ∷ ms) ≡ false → numberOf (r .outcome) ≡ n → ⊥
+never {ms} a n m e = true≢false (sym (a .given) ∙ ap (λ (x : ℕ). member x (0 ∷ ms)) e ∙ m)
 
 -- What isn't accepted was refused by its checks.
 not-bare : (o : Outcome) (r : Answer) → r ≡ bare o → (r ≡ accepted → ⊥) → o ≡ Accepted → ⊥
@@ -77,17 +84,35 @@ screens {before} {after} {r} (refuses n a k) = by-checks lentNumbers (12 ∷ len
 screens {before} {after} {r} (overloads c o k) = by-overload (12 ∷ lentNumbers) _ _ r o refl k
 screens {before} {after} {r} (accepts c a s) = by-number (12 ∷ lentNumbers) _ 0 r a refl (λ h. absurd (h (said-same a said-accepted)))
 
-pub answers : (ns : List ℕ) {check : Outcome} {C D : Case} {done : Type 0} {before after : Lent} {r : Answer} → Gives ns check → inside ns (11 ∷ 12 ∷ ns) ≡ true
-    → Ends check C D done before after r → Answered (11 ∷ 12 ∷ ns) (after ≡ before) r
+-- The checks give ns; the list ms has these and 11, and it has 12 where that is given.
+pub answers : (ns ms : List ℕ) {check : Outcome} {C D : Case} {done : Type 0} {before after : Lent} {r : Answer} → Gives ns check
+    → inside ns ms ≡ true → member 11 (0 ∷ ms) ≡ true → (OverloadSaid D r → member 12 (0 ∷ ms) ≡ true)
+    → Ends check C D done before after r → Answered ms (after ≡ before) r
 unfolding member
-answers ns {check} {C} {D} {done} {before} {after} {r} g i (call.refuses n a k) = by-checks ns (11 ∷ 12 ∷ ns) _ check r g i a (λ h. k)
-answers ns {check} {C} {D} {done} {before} {after} {r} g i (call.unfit c n a k) = by-number (11 ∷ 12 ∷ ns) _ 11 r a refl (λ h. k)
-answers ns {check} {C} {D} {done} {before} {after} {r} g i (call.overloads c f o k) = by-overload (11 ∷ 12 ∷ ns) _ D r o refl k
-answers ns {check} {C} {D} {done} {before} {after} {r} g i (call.accepts c f a o) = by-number (11 ∷ 12 ∷ ns) _ 0 r a refl (λ h. absurd (h (said-same a said-accepted)))
+answers ns ms {check} {C} {D} {done} {before} {after} {r} g i m v (call.refuses n a k) = by-checks ns ms _ check r g i a (λ h. k)
+answers ns ms {check} {C} {D} {done} {before} {after} {r} g i m v (call.unfit c n a k) = by-number ms _ 11 r a m (λ h. k)
+answers ns ms {check} {C} {D} {done} {before} {after} {r} g i m v (call.overloads c f o k) = by-overload ms _ D r o (v o) k
+answers ns ms {check} {C} {D} {done} {before} {after} {r} g i m v (call.accepts c f a o) = by-number ms _ 0 r a refl (λ h. absurd (h (said-same a said-accepted)))
 
-pub takes : {b : ℕ} {before after : Lent} {r : Answer} → TakeEnds b before after r → Answered (11 ∷ 12 ∷ takeNumbers) (after ≡ before) r
-unfolding member inside
-takes e = answers takeNumbers (take-gives _ _ _ _) refl e
+module _ {b : ℕ} {before after : Lent} {r : Answer} where
+  pub takes : TakeEnds b before after r → Answered (11 ∷ 12 ∷ takeNumbers) (after ≡ before) r
+  unfolding member inside
+  takes e = answers takeNumbers (11 ∷ 12 ∷ takeNumbers) (take-gives _ _ _ _) refl refl (λ o. refl) e
+
+  -- A return gives 11, or a number of its checks; 12 isn't in the list.
+  pub backs : BackEnds b before after r → Answered (11 ∷ backNumbers) (after ≡ before) r
+  unfolding member inside
+  backs e = answers backNumbers (11 ∷ backNumbers) (back-gives _ _ _ _) refl refl (λ o. absurd (back-never-12 e (o .answer .number-is))) e
+
+  -- No outage ends with 17.
+  pub take-never-17 : TakeEnds b before after r → numberOf (r .outcome) ≡ 17 → ⊥
+  unfolding member
+  take-never-17 e = never (takes e) 17 refl
+
+  -- No return ends with 10.
+  pub back-never-10 : BackEnds b before after r → numberOf (r .outcome) ≡ 10 → ⊥
+  unfolding member
+  back-never-10 e = never (backs e) 10 refl
 
 -- ---- The first test that fails is the one that is given.
 pub screen-first : {before after : Lent} {r : Answer} → ScreenEnds before after r → (screenCheck before ≡ Accepted → ⊥) → Said r (numberOf (screenCheck before)) 0 noGroup
@@ -95,8 +120,16 @@ screen-first (refuses n a k) h = a
 screen-first (overloads c o k) h = absurd (h c)
 screen-first (accepts c a s) h = absurd (h c)
 
-pub call-first : {check : Outcome} {C D : Case} {done : Type 0} {before after : Lent} {r : Answer} → Ends check C D done before after r → (check ≡ Accepted → ⊥) → Said r (numberOf check) 0 noGroup
-call-first (call.refuses n a k) h = a
-call-first (call.unfit c n a k) h = absurd (h c)
-call-first (call.overloads c f o k) h = absurd (h c)
-call-first (call.accepts c f a o) h = absurd (h c)
+module _ {check : Outcome} {C D : Case} {done : Type 0} {before after : Lent} {r : Answer} where
+  pub call-first : Ends check C D done before after r → (check ≡ Accepted → ⊥) → Said r (numberOf check) 0 noGroup
+  call-first (call.refuses n a k) h = a
+  call-first (call.unfit c n a k) h = absurd (h c)
+  call-first (call.overloads c f o k) h = absurd (h c)
+  call-first (call.accepts c f a o) h = absurd (h c)
+
+  -- Past the checks, a lent flow that doesn't fit is refused with 11.
+  pub call-unfit : Ends check C D done before after r → check ≡ Accepted → (Fits C (C .limit) (on (before .flow)) → ⊥) → Said r 11 0 noGroup
+  call-unfit (call.refuses n a k) c m = absurd (n c)
+  call-unfit (call.unfit c′ m′ a k) c m = a
+  call-unfit (call.overloads c′ f o k) c m = absurd (m f)
+  call-unfit (call.accepts c′ f a o) c m = absurd (m f)

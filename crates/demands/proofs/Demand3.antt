@@ -1,4 +1,5 @@
--- Demand 3, over the promises of `screen` and `take_out` alone: feeders are taken out one after another in a run.
+-- Demand 3, over the promises of `screen`, `take_out` and `bring_back` alone: feeders are taken out and come back one after another in a run. Here:
+-- what any run leaves, and an outage in it. A return in it: Returns.antt.
 use mathlib.Core.Path.{_≡_, sym, _∙_, subst}
 use mathlib.Core.Bool.{true, false, true≢false}
 use mathlib.Core.List.{List}
@@ -25,21 +26,46 @@ use Rattle.verdict.proofs.VerdictByCase.{tables-agree}
 use Rattle.state.specs.Case.{caseIn}
 use Rattle.state.specs.Call as call
 use Rattle.state.specs.Call.{OverloadSaid}
-use Rattle.state.proofs.Checked.{passing, posed-book}
+use Rattle.state.proofs.Checked.{Passed, passing, posed-book}
 use Rattle.state.proofs.Status.{branches-of, level-of, restates}
 use Rattle.state.proofs.OneOverload.{overloaded-same, fits-not-over}
 use Rattle.screen.specs.Promise.{screenCheck, ScreenEnds, refuses, overloads, accepts}
 use Rattle.outage.specs.Promise.{Touched, Confined, takeCheck, TakeEnds}
 use Rattle.outage.proofs.Checking.{taking}
-use Rattle.demands.specs.Run.{Run, screened, taken}
-use Rattle.demands.proofs.Ends.{done, number-of, take-done, is-accepted}
-use Rattle.demands.proofs.Calls.{call-true}
+use Rattle.restore.specs.Promise.{BackEnds}
+use Rattle.demands.specs.Run.{Run, screened, taken, returned}
+use Rattle.demands.proofs.Ends.{done, number-of, take-done, back-done, is-accepted}
+use Rattle.demands.proofs.Calls.{call-true, back-true}
 
 -- ---- What stands after a run: an accepted book, and a table true of its case and of the flow.
 pub record Stands (l : Lent) : Type 0 where
   pub book : checkOf (l .book) ≡ Accepted
   pub table-true : TrueTable (caseIn (l .book)) (l .flow) (l .table)
 
+-- It passes the checks of every call.
+pub stands-passed : {l : Lent} → Stands l → Passed (l .book) (length (l .flow)) (length (l .table))
+stands-passed {l} s = record {
+  book = s .book;
+  flow-room = omega (arith, branches-of (l .book), s .table-true .room);
+  table-room = omega (arith, branches-of (l .book), s .table-true .long);
+}
+
+-- An accepted outage leaves it, and so does an accepted return.
+module _ {before after : Lent} {b : ℕ} {r : Answer} where
+  pub take-stands : Stands before → TakeEnds b before after r → r ≡ accepted → Stands after
+  take-stands s e a =
+      let d = take-done e a in
+      record { book = d .took .book-accepted; table-true = rw (d .took .case-is) (call-true (d .posed-case) (d .took) (s .table-true)) }
+
+  pub back-stands : Stands before → BackEnds b before after r → r ≡ accepted → Stands after
+  back-stands s e a =
+      let d = back-done e a in
+      record {
+        book = d .brought .book-accepted;
+        table-true = rw (d .brought .case-is) (back-true (d .posed-case) (d .passes .out-now) (d .brought) (s .table-true));
+      }
+
+-- Any run of outages and returns leaves it.
 pub run-stands : {l : Lent} → Run l → Stands l
 run-stands (screened {before} {after} e a) =
     let d = done e a in
@@ -47,12 +73,8 @@ run-stands (screened {before} {after} e a) =
       book = rw (d .screened .book-kept) (d .passes .book);
       table-true = rw (d .screened .book-kept) (d .screened .table-true);
     }
-run-stands (taken b run e a) =
-    let d = take-done e a in
-    record {
-      book = d .took .book-accepted;
-      table-true = rw (d .took .case-is) (call-true (d .posed-case) (d .took) (run-stands run .table-true));
-    }
+run-stands (taken b run e a) = take-stands (run-stands run) e a
+run-stands (returned b run e a) = back-stands (run-stands run) e a
 
 -- ---- The reroute that a carrying branch's record promises.
 carried-by : (C : Case) (f : ℕ → ℤ) (b : ℕ) (rec : List ℕ) → Told C f b rec → verdictIn rec ≡ 1 → Rerouted C f b rec
@@ -99,7 +121,7 @@ module _ {now : Lent} (run : Run now) where
         tables-agree C (now .flow) (after .flow) (now .table) (after .table) run-true
         (subst (λ (bs : List ℕ). TrueTable (caseIn bs) (after .flow) (after .table)) same-book (done e a .screened .table-true))
 
-  -- ---- A call in the run.
+  -- ---- An outage in the run.
   module _ {after : Lent} {b : ℕ} {r : Answer} (e : TakeEnds b now after r) where
     pub call-joins : r ≡ accepted → Run after
     call-joins a = taken b run e a
@@ -119,15 +141,7 @@ module _ {now : Lent} (run : Run now) where
     -- ---- A call on a branch in service answers as the fresh screen of the book without that branch, with the same shortage and group.
     module _ (there : b < branchesIn (now .book)) (in-service : C .served b ≡ true) where
       pub call-checked : takeCheck (now .book) (length (now .flow)) (length (now .table)) b ≡ Accepted
-      call-checked = taking _ _ _ b (record {
-        passes = record {
-          book = run-stands run .book;
-          flow-room = omega (arith, branches-of (now .book), run-true .room);
-          table-room = omega (arith, branches-of (now .book), run-true .long);
-        };
-        there = there;
-        in-service = in-service;
-      })
+      call-checked = taking _ _ _ b (record { passes = stands-passed (run-stands run); there = there; in-service = in-service })
 
       pub posed-out : Posed (out C b)
       posed-out = posed-status C b false run-posed

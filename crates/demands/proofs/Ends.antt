@@ -1,6 +1,6 @@
 -- Which end a screen or a call came to, and what it then says.
 use mathlib.Core.Path.{_≡_, refl, sym, ap, _∙_}
-use mathlib.Core.Bool.{false}
+use mathlib.Core.Bool.{true, false}
 use mathlib.Core.List.{List}
 use Prim.Native.Nat.{ℕ}
 use native.Mathlib.Omega.{arith}
@@ -12,16 +12,21 @@ use Rattle.answer.specs.declared.Outcome.the-variants.{Accepted}
 use Rattle.answer.specs.declared.Answer.{Answer}
 use Rattle.answer.proofs.Said.{said-accepted, said-same}
 use Rattle.answer.proofs.Numbers.{Gives, gives-not, said-is}
-use Rattle.verdict.specs.Case.{Case, Posed, on, Fits}
+use Rattle.verdict.specs.Case.{Case, Posed, back, on, Fits}
 use Rattle.verdict.specs.Update.{Lent}
+use Rattle.verdict.proofs.Fitting.{posed-status}
+use Rattle.verdict.proofs.Back.{fits-back}
 use Rattle.state.specs.Case.{caseIn}
 use Rattle.state.specs.Call as call
 use Rattle.state.specs.Call.{lentNumbers, OverloadSaid, Ends}
 use Rattle.state.proofs.Checked.{lent-gives, posed-book}
+use Rattle.state.proofs.OneOverload.{fits-not-over}
 use Rattle.screen.specs.Promise.{screenCheck, ScreenEnds, refuses, overloads, accepts}
 use Rattle.screen.proofs.AcceptedScreen.{Done, accepted-screen}
 use Rattle.outage.specs.Promise.{takeNumbers, TakenOut, TakeEnds}
 use Rattle.outage.proofs.Checking.{Takeable, takeable, take-gives}
+use Rattle.restore.specs.Promise.{backNumbers, BroughtBack, BackEnds}
+use Rattle.restore.proofs.Checking.{Returnable, returnable, returning, back-gives}
 
 pub number-of : {r s : Answer} → r ≡ s → numberOf (r .outcome) ≡ numberOf (s .outcome)
 number-of e = ap (λ (x : Answer). numberOf (x .outcome)) e
@@ -56,13 +61,30 @@ pub record CallDone (check : Outcome) (C : Case) (what : Type 0) (before : Lent)
   pub fitted : Fits C (C .limit) (on (before .flow))
   pub did : what
 
-pub call-done : (ns : List ℕ) {check : Outcome} {C D : Case} {what : Type 0} {before after : Lent} {r : Answer} → member 0 ns ≡ false → member 12 ns ≡ false → Gives ns check
-    → Ends check C D what before after r → r ≡ accepted → CallDone check C what before
-call-done ns z t g (call.refuses n a k) e = absurd (refused-not ns _ z t g n a e)
-call-done ns z t g (call.unfit c n a k) e = absurd (never-accepted (a .number-is) (λ q. omega arith) e)
-call-done ns z t g (call.overloads c f o k) e = absurd (over-not o e)
-call-done ns z t g (call.accepts c f a o) e = record { passes = c; fitted = f; did = o }
+module _ (ns : List ℕ) {check : Outcome} {C D : Case} {what : Type 0} {before after : Lent} {r : Answer}
+    (z : member 0 ns ≡ false) (t : member 12 ns ≡ false) (g : Gives ns check) where
+  -- Accepted, it did what it promises.
+  pub call-done : Ends check C D what before after r → r ≡ accepted → CallDone check C what before
+  call-done (call.refuses n a k) e = absurd (refused-not ns _ z t g n a e)
+  call-done (call.unfit c n a k) e = absurd (never-accepted (a .number-is) (λ q. omega arith) e)
+  call-done (call.overloads c f o k) e = absurd (over-not o e)
+  call-done (call.accepts c f a o) e = record { passes = c; fitted = f; did = o }
 
+  -- Refused with 12, it told the base excess of the changed case.
+  pub call-over : Ends check C D what before after r → numberOf (r .outcome) ≡ 12 → CallDone check C (OverloadSaid D r) before
+  call-over (call.refuses n a k) e = absurd (gives-not ns check 12 g t (λ q. omega arith) (sym (a .number-is) ∙ e))
+  call-over (call.unfit c n a k) e = absurd (omega (arith, a .number-is, e))
+  call-over (call.overloads c f o k) e = record { passes = c; fitted = f; did = o }
+  call-over (call.accepts c f a o) e = absurd (omega (arith, a .number-is, e))
+
+  -- It was accepted or it wasn't.
+  pub call-accepted? : Ends check C D what before after r → Dec (r ≡ accepted)
+  call-accepted? (call.refuses n a k) = no (refused-not ns _ z t g n a)
+  call-accepted? (call.unfit c n a k) = no (never-accepted (a .number-is) (λ q. omega arith))
+  call-accepted? (call.overloads c f o k) = no (over-not o)
+  call-accepted? (call.accepts c f a o) = yes (is-accepted a)
+
+-- ---- An outage.
 pub record TakeDone (b : ℕ) (before after : Lent) : Type 0 where
   pub passes : Takeable (before .book) (length (before .flow)) (length (before .table)) b
   pub posed-case : Posed (caseIn (before .book))
@@ -75,3 +97,38 @@ take-done {b} {before} e a =
     let d = call-done takeNumbers refl refl (take-gives _ _ _ _) e a in
     let t = takeable (before .book) (length (before .flow)) (length (before .table)) b (d .passes) in
     record { passes = t; posed-case = posed-book (before .book) (t .passes .book); fitted = d .fitted; took = d .did }
+
+-- ---- A return.
+-- The branch was out of service, the lent flow fitted, and the call did what it promises.
+pub record BackDone (b : ℕ) (before after : Lent) : Type 0 where
+  pub passes : Returnable (before .book) (length (before .flow)) (length (before .table)) b
+  pub posed-case : Posed (caseIn (before .book))
+  pub fitted : Fits (caseIn (before .book)) (caseIn (before .book) .limit) (on (before .flow))
+  pub brought : BroughtBack b before after
+
+module _ {b : ℕ} {before after : Lent} {r : Answer} where
+  -- An accepted return has done so.
+  pub back-done : BackEnds b before after r → r ≡ accepted → BackDone b before after
+  unfolding member
+  back-done e a =
+      let d = call-done backNumbers refl refl (back-gives _ _ _ _) e a in
+      let t = returnable (before .book) (length (before .flow)) (length (before .table)) b (d .passes) in
+      record { passes = t; posed-case = posed-book (before .book) (t .passes .book); fitted = d .fitted; brought = d .did }
+
+  -- A return never ends with 12: the lent flow fits the changed book.
+  pub back-never-12 : BackEnds b before after r → numberOf (r .outcome) ≡ 12 → ⊥
+  unfolding member
+  back-never-12 e n =
+      let C = caseIn (before .book) in
+      let d = call-over backNumbers refl refl (back-gives _ _ _ _) e n in
+      let t = returnable (before .book) (length (before .flow)) (length (before .table)) b (d .passes) in
+      fits-not-over (back C b) (on (before .flow)) r (posed-status C b true (posed-book (before .book) (t .passes .book)))
+      (fits-back C b (t .out-now) (C .limit) (on (before .flow)) (d .fitted)) (d .did)
+
+  -- A return that passes its checks, lent a flow that fits, is accepted.
+  pub back-accepted : Returnable (before .book) (length (before .flow)) (length (before .table)) b
+      → Fits (caseIn (before .book)) (caseIn (before .book) .limit) (on (before .flow)) → BackEnds b before after r → r ≡ accepted
+  back-accepted t f (call.refuses n a k) = absurd (n (returning _ _ _ b t))
+  back-accepted t f (call.unfit c n a k) = absurd (n f)
+  back-accepted t f (call.overloads c h o k) = absurd (back-never-12 (call.overloads c h o k) (o .answer .number-is))
+  back-accepted t f (call.accepts c h a o) = is-accepted a

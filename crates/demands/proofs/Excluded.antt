@@ -18,11 +18,11 @@ use Rattle.verdict.specs.Update.{Lent, Shortlisted, not-served, not-carrying, i
 use Rattle.verdict.proofs.Fitting.{served-self, posed-status}
 use Rattle.verdict.proofs.Shown as told
 use Rattle.state.specs.Case.{caseIn}
-use Rattle.state.specs.Call.{refuses, unfit, overloads, accepts}
 use Rattle.state.proofs.Status.{branches-of}
 use Rattle.outage.specs.Promise.{Touched, changed, takeCheck, TakeEnds}
 use Rattle.demands.specs.Run.{Run}
 use Rattle.demands.proofs.Ends.{take-done}
+use Rattle.demands.proofs.Demand1.{call-unfit}
 use Rattle.demands.proofs.Demand3.{call-confined}
 
 module _ {before after : Lent} {b : ℕ} {r : Answer} (e : TakeEnds b before after r) where
@@ -72,10 +72,4 @@ module _ {before after : Lent} {b : ℕ} {r : Answer} (e : TakeEnds b before aft
 
   -- One that tests 11 after 12: a lent flow that doesn't fit is refused with 11, whatever the changed book's excess.
   pub eleven-first : takeCheck (before .book) (length (before .flow)) (length (before .table)) b ≡ Accepted → (Fits C (C .limit) (on (before .flow)) → ⊥) → Said r 11 0 noGroup
-  eleven-first c m = go e
-    where
-      go : TakeEnds b before after r → Said r 11 0 noGroup
-      go (refuses n a k) = absurd (n c)
-      go (unfit c′ m′ a k) = a
-      go (overloads c′ f o k) = absurd (m f)
-      go (accepts c′ f a o) = absurd (m f)
+  eleven-first = call-unfit e

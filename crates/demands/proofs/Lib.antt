@@ -4,8 +4,12 @@ pub mod Demand2
 pub mod Unique
 pub mod Calls
 pub mod Demand3
+pub mod Returns
+pub mod OutAndBack
 pub mod AsShown
 pub mod UniqueCalls
+pub mod UniqueReturns
 pub mod UniqueCallable
 pub mod Excluded
+pub mod ExcludedReturns
 pub mod RoundTrips

@@ -7,10 +7,12 @@ use Rattle.answer.specs.declared.Answer.{Answer}
 use Rattle.verdict.specs.Update.{Lent}
 use Rattle.screen.specs.Promise.{ScreenEnds}
 use Rattle.outage.specs.Promise.{TakeEnds}
+use Rattle.restore.specs.Promise.{BackEnds}
 use Rattle.callable.specs.Promise.{SaidInParts}
 use Rattle.demands.specs.Same.{FreeFlow, SameResult}
 use Rattle.demands.proofs.Unique.{Each, screens-same}
 use Rattle.demands.proofs.UniqueCalls.{lentCase, AgreeTaken, SameTaken, calls-same}
+use Rattle.demands.proofs.UniqueReturns.{SameReturn, returns-same}
 
 -- The three parts of two answers are the same, and so is what the answers leave.
 pub record SameParts (same : Answer → Answer → Type 0) (n v : ℕ) (g : List ℕ) (m w : ℕ) (h : List ℕ) : Type 0 where
@@ -45,3 +47,7 @@ module _ {before one two : Lent} {n v m w : ℕ} {g h : List ℕ} where
   pub callable-takes : (b : ℕ) → SaidInParts (TakeEnds b before one) n v g → SaidInParts (TakeEnds b before two) m w h
       → SameParts (SameTaken before b (AgreeTaken before b one two) one two) n v g m w h
   callable-takes b = parts-same _ (λ r s x y. calls-same x y) (λ r s x. x .answers)
+
+  pub callable-backs : (b : ℕ) → SaidInParts (BackEnds b before one) n v g → SaidInParts (BackEnds b before two) m w h
+      → SameParts (SameReturn before b one two) n v g m w h
+  callable-backs b = parts-same _ (λ r s x y. returns-same x y) (λ r s x. x .same .answers)

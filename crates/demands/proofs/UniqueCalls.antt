@@ -5,7 +5,6 @@ use mathlib.Core.Bool.{Bool, true, false, true≢false}
 use mathlib.Core.List.{List}
 use mathlib.Core.Logic.{_↔_, _⊎_, inl, inr}
 use Prim.Native.Nat.{ℕ, _<_}
-use native.Mathlib.Omega.{arith}
 use lib.IntN.{ℤ}
 use Rattle.rows.specs.Row.{member}
 use Rattle.rows.specs.Sum.{pick}
@@ -29,7 +28,7 @@ use Rattle.outage.specs.Promise.{Touched, Confined, takeNumbers, TakenOut, Take
 use Rattle.outage.specs.declared.Taken.{Taken}
 use Rattle.outage.proofs.Checking.{takeable, take-gives}
 use Rattle.demands.specs.Same.{FreeTaken, FreeBit, Alike, SameResult}
-use Rattle.demands.proofs.Ends.{take-done, is-accepted, never-accepted, over-not, refused-not}
+use Rattle.demands.proofs.Ends.{take-done, is-accepted, call-accepted?}
 use Rattle.demands.proofs.Unique.{equal-alike, true-alike, still-same, beyond-same, kept-same, flows-below, Each}
 use Rattle.demands.proofs.Calls.{touched?, call-true}
 
@@ -178,17 +177,11 @@ judges-same D t T U n m listed? agree x y =
     one k l (yes p) false i = x .if-not k l (λ _ j. true≢false (sym j ∙ i)) ∙ sym (y .if-not k l (λ _ j. true≢false (sym j ∙ i)))
     one k l (no n) s i = x .if-not k l (λ p _. n p) ∙ sym (y .if-not k l (λ p _. n (agree k l .1 p)))
 
-accepted? : {b : ℕ} {before after : Lent} {r : Answer} → TakeEnds b before after r → Dec (r ≡ accepted)
-unfolding member
-accepted? (refuses n a k) = no (refused-not takeNumbers _ refl refl (take-gives _ _ _ _) n a)
-accepted? (unfit c n a k) = no (never-accepted (a .number-is) (λ q. omega arith))
-accepted? (overloads c f o k) = no (over-not o)
-accepted? (accepts c f a o) = yes (is-accepted a)
-
 module _ {before one two : Lent} {b : ℕ} {r s : Taken} where
   pub counted-same : TakeCounted b before one r → TakeCounted b before two s
       → ((k : ℕ) → k < lentCase before .branches → AgreeTaken before b one two k) → r .judged ≡ s .judged
-  counted-same x y agree = go (accepted? (x .ends))
+  unfolding member
+  counted-same x y agree = go (call-accepted? takeNumbers refl refl (take-gives _ _ _ _) (x .ends))
     where
       same : r .answer ≡ s .answer
       same = calls-same (x .ends) (y .ends) .answers

@@ -1,4 +1,4 @@
--- A run: a book is screened, and then calls are accepted one after another, each lent what the one before left.
+-- A run: a book is screened, and then outages and returns are accepted in any order, each lent what the one before left.
 use mathlib.Core.Path.{_≡_}
 use Prim.Native.Nat.{ℕ}
 use Rattle.answer.specs.Answer.{accepted}
@@ -6,8 +6,10 @@ use Rattle.answer.specs.declared.Answer.{Answer}
 use Rattle.verdict.specs.Update.{Lent}
 use Rattle.screen.specs.Promise.{ScreenEnds}
 use Rattle.outage.specs.Promise.{TakeEnds}
+use Rattle.restore.specs.Promise.{BackEnds}
 
 -- What then stands. A later call joins as a further constructor.
 pub data Run : Lent → Type 0 where
   screened : {before after : Lent} {r : Answer} → ScreenEnds before after r → r ≡ accepted → Run after
   taken : {before after : Lent} {r : Answer} (b : ℕ) → Run before → TakeEnds b before after r → r ≡ accepted → Run after
+  returned : {before after : Lent} {r : Answer} (b : ℕ) → Run before → BackEnds b before after r → r ≡ accepted → Run after

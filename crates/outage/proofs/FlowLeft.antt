@@ -1,14 +1,12 @@
 -- From the kernel's word on a branch to be taken out to the flow that is left, or to the group that is short.
-use mathlib.Core.Path.{_≡_, refl, sym, ap, _∙_, subst, fun-ext}
-use mathlib.Core.Bool.{Bool, false, cond}
+use mathlib.Core.Path.{_≡_, refl, sym, ap, _∙_, subst}
+use mathlib.Core.Bool.{Bool, false}
 use mathlib.Core.List.{List}
 use Prim.Native.Nat.{ℕ, _+_, _≤_, _<_}
 use native.Mathlib.Omega.{arith}
 use native.Mathlib.Decide.{ℕ-discrete}
-use borrow.Author.Tests.{eq-eqb, ne-eqb}
-use lib.Dec.{eqb}
 use lib.IntN.{ℤ, pos, _-ℤ_}
-use lib.ListN.{length, getD, set, take, drop}
+use lib.ListN.{length, set, take, drop}
 use lib.Seq.{getD-set-same, getD-set-other}
 use Rattle.rows.specs.Row.{nth, headed}
 use Rattle.rows.proofs.Row.{headed-at}
@@ -31,12 +29,13 @@ use Rattle.replace.specs.Inside as replace
 use Rattle.replace.specs.Inside.{Replaced}
 use Rattle.verdict.specs.Case.{Case, out, on, Fits}
 use Rattle.verdict.proofs.Plain.{flowOf, netOf, lossNet, overload-plain}
-use Rattle.verdict.proofs.Fitting.{nothing, posed-status, fits-within, fits-balanced, settled-fits}
+use Rattle.verdict.proofs.Fitting.{nothing, fits-within, fits-balanced, settled-fits}
 use Rattle.verdict.proofs.Alike.{SameFlow, within-alike, balanced-alike, net-out, gains-loads}
 use Rattle.verdict.proofs.Loss.{Level, level-smallest}
 use Rattle.state.specs.Inside.{Held, State, Fillable}
 use Rattle.state.specs.Call.{OverloadSaid}
-use Rattle.state.proofs.TrueRecords.{clipped, group-bytes, held-net, limits, limit-at, even, says, balanced}
+use Rattle.state.proofs.TrueRecords.{clipped, group-bytes, held-net, held-limit, limits, limit-at, even, says, balanced}
+use Rattle.switch.proofs.Switched.{held-switched}
 use Rattle.outage.specs.Promise.{Confined}
 
 module _ (C : Case) (level : Level C) (flow : List ℤ) (W : Wires) (served : List Bool) (live : List ℕ) (lat : Latent) (s : State C (on flow) W served live lat)
@@ -74,31 +73,11 @@ module _ (C : Case) (level : Level C) (flow : List ℤ) (W : Wires) (served : Li
     few : k < 256
     few = omega (arith, s .held .posed .few-branches)
 
-    served-at : (j : ℕ) → getD (set served k false) j false ≡ cond (eqb j k) false (C .served j)
-    served-at j = go (ℕ-discrete j k)
-      where
-        go : Dec (j ≡ k) → getD (set served k false) j false ≡ cond (eqb j k) false (C .served j)
-        go (yes e) = rw (e, eq-eqb k k refl) (getD-set-same served k false false (omega (arith, few)))
-        go (no n) = rw (ne-eqb j k n) (getD-set-other served k j false false n ∙ s .held .served-is j)
-
-    limits-at : (j : ℕ) → nth limits-out j ≡ pick (cond (eqb j k) false (C .served j)) (C .loss-limit j)
-    limits-at j = go (ℕ-discrete j k)
-      where
-        go : Dec (j ≡ k) → nth limits-out j ≡ pick (cond (eqb j k) false (C .served j)) (C .loss-limit j)
-        go (yes e) = rw (e, eq-eqb k k refl) (getD-set-same live k 0 0 (omega (arith, few)))
-        go (no n) = rw (ne-eqb j k n) (getD-set-other live k j 0 0 n ∙ limit-at C (on flow) W served live lat s j)
-
     pub held-out : Held (out C k) W (set served k false) limits-out
-    held-out = record {
-      posed = posed-status C k false (s .held .posed);
-      linked = s .held .linked;
-      buses-are = s .held .buses-are;
-      branches-are = s .held .branches-are;
-      first-is = s .held .first-is;
-      second-is = s .held .second-is;
-      served-is = served-at;
-      live-is = fun-ext limits-at;
-    }
+    held-out = held-switched C W served live (s .held) long-served long-live k few false 0 refl
+
+    limits-at : (j : ℕ) → nth limits-out j ≡ pick (out C k .served j) (C .loss-limit j)
+    limits-at = held-limit (out C k) W (set served k false) limits-out held-out
 
     other : (j : ℕ) → (j ≡ k → ⊥) → nth limits-out j ≡ nth live j
     other j n = getD-set-other live k j 0 0 n

@@ -18,29 +18,23 @@ use Rattle.answer.specs.declared.Outcome.the-variants.{Accepted}
 use Rattle.answer.proofs.Refusals.{refusal-stands}
 use Rattle.answer.proofs.Said.{said-accepted, said-refused}
 use Rattle.answer.proofs.Numbers.{gives-said}
-use Rattle.quantity.specs.Signed.{posPart, negPart}
 use Rattle.bits.specs.Field.{setBit}
-use Rattle.layout.specs.Layout.{busesIn, branchesIn, statusBit, bookOf}
-use Rattle.layout.proofs.WellFormed.{accepted-well, buses-of}
-use Rattle.book.specs.Inside.{RowsRead}
-use Rattle.book.specs.declared.CaseRows.{CaseRows}
+use Rattle.layout.specs.Layout.{busesIn, statusBit}
 use Rattle.reroute.specs.InsideVerdicts.{Losable}
 use Rattle.reroute.specs.declared.Judgement.{Judgement}
 use Rattle.reroute.specs.declared.Verdict.the-variants.{Carries, Short}
 use Rattle.replace.specs.Inside.{Replaced}
-use Rattle.fit.specs.Inside.{Lendable, Fitted}
-use Rattle.fit.specs.declared.Lending.{Lending}
 use Rattle.verdict.specs.Case.{Case, out, on}
 use Rattle.verdict.specs.Record.{recordAt}
 use Rattle.state.specs.Case.{caseIn}
 use Rattle.state.specs.Call.{lent, refuses, unfit, overloads, accepts}
-use Rattle.state.specs.Inside.{Held, State, Planned, Plannable, Fillable, Poised, Rewritten}
-use Rattle.state.specs.declared.Plan.{Plan}
-use Rattle.state.proofs.Opening.{plannable, held, gain-is, load-is, small-injections}
-use Rattle.state.proofs.Lending as lending
-use Rattle.state.proofs.Status.{branches-of, level-of, restates}
+use Rattle.state.specs.Inside.{State, Surveyed, Fillable, Poised, Listing, Rewritten}
+use Rattle.state.specs.declared.Survey.{Survey}
+use Rattle.state.proofs.Surveying.{branch-there, sizes}
+use Rattle.state.proofs.Status.{level-of, restates}
 use Rattle.state.proofs.TrueRecords.{losable}
-use Rattle.outage.specs.Inside.{Marked, Listing}
+use Rattle.switch.specs.Inside.{With}
+use Rattle.outage.specs.Inside.{Marked, listedAt}
 use Rattle.outage.specs.Promise.{Touched, itself, changed, takeCheck, takeNumbers, TakeCounted}
 use Rattle.outage.specs.declared.Taken.{Taken}
 use Rattle.outage.proofs.Checking.{Takeable, takeable, take-gives}
@@ -67,128 +61,104 @@ module _ (bs : List ℕ) (flow : List ℤ) (table : List ℕ) (b : ℕ) where
     pub may : Takeable bs (length flow) (length table) b
     may = takeable bs (length flow) (length table) b ok
 
-    module _ (r : CaseRows) (h : RowsRead (bookOf bs) r) where
-      pub plannable-here : Plannable r
-      plannable-here = plannable (bookOf bs) (accepted-well bs (may .passes .book)) r h
+    module _ (q : Survey) (p : Surveyed bs flow q) where
+      there : b < C .branches
+      there = branch-there p (may .there)
 
-      module _ (q : Plan) (p : Planned r q) where
-        held-here : Held C (q .wires) (q .served) (q .live)
-        held-here = held (bookOf bs) (accepted-well bs (may .passes .book)) r h q p
+      pub ends-unfit : {t : Taken} → q .fits ≡ false → t .answer ≡ refused 11 → t .judged ≡ 0 → TakeCounted b (lent bs flow table) (lent bs flow table) t
+      ends-unfit e a z = record {
+        ends = unfit ok (p .unfit e) (rw a (said-refused 11 (λ z. omega arith) (λ z. omega arith))) refl;
+        judges = λ q. absurd (refusal-stands 11 (ap (λ (x : Answer). x .outcome) (sym a ∙ q)));
+        none = λ _. z;
+      }
 
-        gains : nth (q .gain) ≡ (λ i. posPart (C .injection i))
-        gains = gain-is (bookOf bs) (accepted-well bs (may .passes .book)) r h q p
+      module _ (e : q .fits ≡ true) where
+        state : State C (on flow) (q .wires) (q .served) (q .live) (q .latent)
+        state = p .fitting e
 
-        loads : nth (q .load) ≡ (λ i. negPart (C .injection i))
-        loads = load-is (bookOf bs) (accepted-well bs (may .passes .book)) r h q p
+        pub losable-here : Losable (q .wires) (q .live) (q .latent) b
+        losable-here = losable C (on flow) (q .wires) (q .served) (q .live) (q .latent) state b (sizes p (may .there) .2)
 
-        pub count-here : q .wires .branches ≡ branchesIn bs
-        count-here = held-here .branches-are ∙ branches-of bs
-
-        buses-here : q .wires .buses ≡ busesIn bs
-        buses-here = p .wiring .same-buses ∙ h .buses-are ∙ buses-of bs
-
-        there : b < C .branches
-        there = omega (arith, may .there, count-here, held-here .branches-are)
-
-        pub sizes : (q .wires .buses ≤ 128) × (q .wires .branches ≤ 256) × (b < q .wires .branches)
-        sizes = (held-here .linked .wired .few, held-here .linked .wired .size, omega (arith, may .there, count-here))
-
-        pub lendable-here : Lendable (q .wires) (q .live) (q .gain) (q .load) (length flow)
-        lendable-here =
-            lending.lendable C (level-of bs) (q .wires) (q .served) (q .live) (q .gain) (q .load) held-here gains loads (length flow) (omega (arith, may .passes .flow-room, count-here))
-            (small-injections (bookOf bs) (accepted-well bs (may .passes .book)) (q .gain) (q .load) gains loads)
-
-        module _ (x : Lending) (d : Fitted (q .wires) flow (q .live) (q .gain) (q .load) x) where
-          pub ends-unfit : {t : Taken} → x .fits ≡ false → t .answer ≡ refused 11 → t .judged ≡ 0 → TakeCounted b (lent bs flow table) (lent bs flow table) t
-          ends-unfit e a z = record {
-            ends = unfit ok (lending.fit-not C (level-of bs) (q .wires) (q .served) (q .live) (q .gain) (q .load) held-here gains loads flow x d e)
-                (rw a (said-refused 11 (λ z. omega arith) (λ z. omega arith))) refl;
-            judges = λ q. absurd (refusal-stands 11 (ap (λ (x : Answer). x .outcome) (sym a ∙ q)));
-            none = λ _. z;
+        module _ (named : List ℕ) (y : Judgement) (z : Replaced (q .wires) (q .live) (q .latent) named b y) where
+          pub ends-short : {t : Taken} (v : ℕ) → y .verdict ≡ Short v → length (y .group) ≡ 16 → (t .answer ≡ overloaded v (y .group)) × (t .judged ≡ 0) → TakeCounted b (lent bs flow table) (lent bs flow table) t
+          ends-short v w l a = record {
+            ends = overloads ok (state .fits)
+                (rw (a .0) (leaving.overload-out C (level-of bs) flow (q .wires) (q .served) (q .live) (q .latent) state b there named y z v w l)) refl;
+            judges = λ q. absurd (omega (arith, ap (λ (x : Answer). numberOf (x .outcome)) (sym (a .0) ∙ q)));
+            none = λ _. a .1;
           }
 
-          module _ (e : x .fits ≡ true) where
-            state : State C (on flow) (q .wires) (q .served) (q .live) (x .latent)
-            state = lending.fit-state C (level-of bs) (q .wires) (q .served) (q .live) (q .gain) (q .load) held-here gains loads flow x d e
+          module _ {served : List Bool} (served-left : With (q .served) b false served) {live : List ℕ} (live-left : With (q .live) b 0 live) where
+            abbrev ls : length (q .served) ≡ 256
+            ls = served-left .long
 
-            pub losable-here : Losable (q .wires) (q .live) (x .latent) b
-            losable-here = losable C (on flow) (q .wires) (q .served) (q .live) (x .latent) state b (sizes .2)
+            abbrev ll : length (q .live) ≡ 256
+            ll = live-left .long
 
-            module _ (named : List ℕ) (y : Judgement) (z : Replaced (q .wires) (q .live) (x .latent) named b y) where
-              pub ends-short : {t : Taken} (v : ℕ) → y .verdict ≡ Short v → length (y .group) ≡ 16 → (t .answer ≡ overloaded v (y .group)) × (t .judged ≡ 0) → TakeCounted b (lent bs flow table) (lent bs flow table) t
-              ends-short v w l a = record {
-                ends = overloads ok (state .fits)
-                    (rw (a .0) (leaving.overload-out C (level-of bs) flow (q .wires) (q .served) (q .live) (x .latent) state b there named y z v w l)) refl;
-                judges = λ q. absurd (omega (arith, ap (λ (x : Answer). numberOf (x .outcome)) (sym (a .0) ∙ q)));
-                none = λ _. a .1;
-              }
+            pub fillable-here : Fillable (q .wires .branches) live (y .latent .ahead) (length flow)
+            fillable-here = rw (live-left .row-is)
+                (leaving.fillable-out C (level-of bs) flow (q .wires) (q .served) (q .live) (q .latent) state b there named y z ls ll (length flow)
+                (omega (arith, may .passes .flow-room, p .branches-are)))
 
-              module _ (ls : length (q .served) ≡ 256) (ll : length (q .live) ≡ 256) where
-                pub fillable-here : {live : List ℕ} → live ≡ set (q .live) b 0 → Fillable (q .wires .branches) live (y .latent .ahead) (length flow)
-                fillable-here l = rw l
-                    (leaving.fillable-out C (level-of bs) flow (q .wires) (q .served) (q .live) (x .latent) state b there named y z ls ll (length flow)
-                    (omega (arith, may .passes .flow-room, count-here)))
+            module _ (v : y .verdict ≡ Carries) (flow′ : List ℤ)
+                (flow-left : flow′ ≡ headed (q .wires .branches) (λ j. pos (nth live j) -ℤ pos (nth (y .latent .ahead) j)) flow) where
+              flow-is : flow′ ≡ headed (q .wires .branches) (λ j. pos (nth (set (q .live) b 0) j) -ℤ pos (nth (y .latent .ahead) j)) flow
+              flow-is = flow-left ∙ ap (λ (l : List ℕ). headed (q .wires .branches) (λ j. pos (nth l j) -ℤ pos (nth (y .latent .ahead) j)) flow) (live-left .row-is)
 
-                module _ {served : List Bool} (served-left : served ≡ set (q .served) b false) {live : List ℕ} (live-left : live ≡ set (q .live) b 0)
-                    (v : y .verdict ≡ Carries) (flow′ : List ℤ)
-                    (flow-left : flow′ ≡ headed (q .wires .branches) (λ j. pos (nth live j) -ℤ pos (nth (y .latent .ahead) j)) flow) where
-                  flow-is : flow′ ≡ headed (q .wires .branches) (λ j. pos (nth (set (q .live) b 0) j) -ℤ pos (nth (y .latent .ahead) j)) flow
-                  flow-is = flow-left ∙ ap (λ (l : List ℕ). headed (q .wires .branches) (λ j. pos (nth l j) -ℤ pos (nth (y .latent .ahead) j)) flow) live-left
+              state-here : State (out C b) (on flow′) (q .wires) (set (q .served) b false) (set (q .live) b 0) (y .latent)
+              state-here =
+                  leaving.state-out C (level-of bs) flow (q .wires) (q .served) (q .live) (q .latent) state b there named y z ls ll flow′ flow-is v
 
-                  state-here : State (out C b) (on flow′) (q .wires) (set (q .served) b false) (set (q .live) b 0) (y .latent)
-                  state-here =
-                      leaving.state-out C (level-of bs) flow (q .wires) (q .served) (q .live) (x .latent) state b there named y z ls ll flow′ flow-is v
+              state-left : State (out C b) (on flow′) (q .wires) served live (y .latent)
+              state-left = rw (served-left .row-is, live-left .row-is) state-here
 
-                  state-left : State (out C b) (on flow′) (q .wires) served live (y .latent)
-                  state-left = rw (served-left, live-left) state-here
+              pub poised-here : Poised (q .wires) served live (y .latent)
+              poised-here = record { case = out C b; flow = on flow′; state = state-left }
 
-                  pub poised-here : Poised (q .wires) served live (y .latent)
-                  poised-here = record { case = out C b; flow = on flow′; state = state-left }
+              module _ (touched : List ℕ) (m : Marked (q .wires .branches) (q .latent .ahead) (y .latent .ahead) b touched) where
+                marks : (j : ℕ) → j < C .branches → Touched (on flow) (on flow′) b j → has touched j ≡ true
+                marks j u t = go t (ℕ-discrete j b)
+                  where
+                    go : Touched (on flow) (on flow′) b j → Dec (j ≡ b) → has touched j ≡ true
+                    go t (yes e) = rw e (m .itself)
+                    go (itself e) (no n) = absurd (n e)
+                    go (changed f) (no n) =
+                        m .differing j (omega (arith, p .held .branches-are))
+                        (λ i. f (sym (leaving.same-flow C (level-of bs) flow (q .wires) (q .served) (q .live) (q .latent) state b there named y z ls ll flow′ flow-is j u n i)))
 
-                  module _ (touched : List ℕ) (m : Marked (q .wires .branches) (x .latent .ahead) (y .latent .ahead) b touched) where
-                    marks : (j : ℕ) → j < C .branches → Touched (on flow) (on flow′) b j → has touched j ≡ true
-                    marks j u t = go t (ℕ-discrete j b)
-                      where
-                        go : Touched (on flow) (on flow′) b j → Dec (j ≡ b) → has touched j ≡ true
-                        go t (yes e) = rw e (m .itself)
-                        go (itself e) (no n) = absurd (n e)
-                        go (changed f) (no n) =
-                            m .differing j (omega (arith, held-here .branches-are))
-                            (λ i. f (sym (leaving.same-flow C (level-of bs) flow (q .wires) (q .served) (q .live) (x .latent) state b there named y z ls ll flow′ flow-is j u n i)))
+                only : (j : ℕ) → has touched j ≡ true → (j < C .branches) × Touched (on flow) (on flow′) b j
+                only j i = elim (m .only j i) [
+                  | inl e ↦ (rw e there, itself e)
+                  | inr f ↦ (
+                    omega (arith, f .below, p .held .branches-are),
+                    changed (λ g. f .changed (leaving.same-ahead C (level-of bs) flow (q .wires) (q .served) (q .live) (q .latent) state b there named y z ls ll flow′ flow-is j
+                        (omega (arith, f .below, p .held .branches-are)) (f .other) g)),
+                  )
+                ]
 
-                    only : (j : ℕ) → has touched j ≡ true → (j < C .branches) × Touched (on flow) (on flow′) b j
-                    only j i = elim (m .only j i) [
-                      | inl e ↦ (rw e there, itself e)
-                      | inr f ↦ (
-                        omega (arith, f .below, held-here .branches-are),
-                        changed (λ g. f .changed (leaving.same-ahead C (level-of bs) flow (q .wires) (q .served) (q .live) (x .latent) state b there named y z ls ll flow′ flow-is j
-                            (omega (arith, f .below, held-here .branches-are)) (f .other) g)),
-                      )
-                    ]
-
-                    pub ends-taken :
-                        {bs′ table′ bits : List ℕ} {losses : ℕ} {t : Taken} → t .answer ≡ accepted → t .judged ≡ losses → named ≡ take 32 (drop 20 (recordAt table b))
-                        → Listing (q .wires .branches) served touched table bits → bs′ ≡ setBit bs (statusBit (q .wires .buses) b) 0
-                        → ((D : Case) (f : ℕ → ℤ) → State D f (q .wires) served live (y .latent) → Rewritten D f served bits table table′ losses)
-                        → TakeCounted b (lent bs flow table) (lent bs′ flow′ table′) t
-                    ends-taken {bs′} {table′} {bits} {losses} {t} a losses-are named-is list book-is fresh =
-                        let i : bs′ ≡ setBit bs (statusBit (busesIn bs) b) 0 = book-is ∙ ap (λ (n : ℕ). setBit bs (statusBit n b) 0) buses-here in
-                        let c = restates bs b 0 (may .passes .book) (may .there) (omega arith) in
-                        let n : q .wires .branches ≤ length flow = omega (arith, may .passes .flow-room, count-here) in
-                        let f : ℕ → ℤ = λ j. pos (nth (set (q .live) b 0) j) -ℤ pos (nth (y .latent .ahead) j) in
-                        let redone = fresh (out C b) (on flow′) state-left in
-                        let list′ : Listing (C .branches) served touched table bits = rw (held-here .branches-are) at list in
-                        record {
-                          none = λ n. absurd (n a);
-                          judges = λ _. judges (out C b) served touched (Touched (on flow) (on flow′) b) (held-here .posed .few-branches) (state-left .held .served-is) marks only table bits list′ (losses-are ∙ redone .judged-is);
-                          ends = accepts ok (state .fits) (rw a said-accepted) (record {
-                            book-is = i;
-                            book-accepted = rw i (c .book);
-                            case-is = rw i (c .case-is);
-                            updated = updated (out C b) served touched (Touched (on flow) (on flow′) b) (held-here .posed .few-branches) (state-left .held .served-is) marks only table bits list′
-                                (state-left .fits) (redone .table-is) (ap length flow-is ∙ length-headed (q .wires .branches) f flow n)
-                                (λ k u. rw flow-is (headed-rest (q .wires .branches) f flow k (pos 0) (omega (arith, held-here .branches-are))));
-                            idle = leaving.idle-out C (level-of bs) flow (q .wires) (q .served) (q .live) (x .latent) state b there named y z ls ll flow′ flow-is;
-                            confined = leaving.confined-out C (level-of bs) flow (q .wires) (q .served) (q .live) (x .latent) state b there named y z ls ll flow′ flow-is (recordAt table b) named-is;
-                          });
-                        }
+                pub ends-taken :
+                    {bs′ table′ bits : List ℕ} {losses : ℕ} {t : Taken} → t .answer ≡ accepted → t .judged ≡ losses → named ≡ take 32 (drop 20 (recordAt table b))
+                    → Listing (q .wires .branches) (listedAt served touched table) bits → bs′ ≡ setBit bs (statusBit (q .wires .buses) b) 0
+                    → ((D : Case) (f : ℕ → ℤ) → State D f (q .wires) served live (y .latent) → Rewritten D f served bits table table′ losses)
+                    → TakeCounted b (lent bs flow table) (lent bs′ flow′ table′) t
+                ends-taken {bs′} {table′} {bits} {losses} {t} a losses-are named-is list book-is fresh =
+                    let i : bs′ ≡ setBit bs (statusBit (busesIn bs) b) 0 = book-is ∙ ap (λ (n : ℕ). setBit bs (statusBit n b) 0) (p .buses-are) in
+                    let c = restates bs b 0 (may .passes .book) (may .there) (omega arith) in
+                    let n : q .wires .branches ≤ length flow = omega (arith, may .passes .flow-room, p .branches-are) in
+                    let f : ℕ → ℤ = λ j. pos (nth (set (q .live) b 0) j) -ℤ pos (nth (y .latent .ahead) j) in
+                    let redone = fresh (out C b) (on flow′) state-left in
+                    let list′ : Listing (C .branches) (listedAt served touched table) bits = rw (p .held .branches-are) at list in
+                    record {
+                      none = λ n. absurd (n a);
+                      judges = λ _. judges (out C b) served touched (Touched (on flow) (on flow′) b) (p .held .posed .few-branches) (state-left .held .served-is) marks only table bits list′ (losses-are ∙ redone .judged-is);
+                      ends = accepts ok (state .fits) (rw a said-accepted) (record {
+                        book-is = i;
+                        book-accepted = rw i (c .book);
+                        case-is = rw i (c .case-is);
+                        updated = updated (out C b) served touched (Touched (on flow) (on flow′) b) (p .held .posed .few-branches) (state-left .held .served-is) marks only table bits list′
+                            (state-left .fits) (redone .table-is) (ap length flow-is ∙ length-headed (q .wires .branches) f flow n)
+                            (λ k u. rw flow-is (headed-rest (q .wires .branches) f flow k (pos 0) (omega (arith, p .held .branches-are))));
+                        idle = leaving.idle-out C (level-of bs) flow (q .wires) (q .served) (q .live) (q .latent) state b there named y z ls ll flow′ flow-is;
+                        confined = leaving.confined-out C (level-of bs) flow (q .wires) (q .served) (q .live) (q .latent) state b there named y z ls ll flow′ flow-is (recordAt table b) named-is;
+                      });
+                    }

@@ -3,47 +3,47 @@ use mathlib.Core.Path.{_≡_, refl, sym, ap, _∙_}
 use mathlib.Core.Bool.{Bool, true, false, not, _&&_, _||_, true≢false, false≢true}
 use mathlib.Core.List.{List}
 use mathlib.Core.Logic.{_⊎_, inl, inr}
-use Prim.Native.Nat.{ℕ, _+_, _*_, _≤_, _<_}
+use Prim.Native.Nat.{ℕ, _≤_, _<_}
 use native.Mathlib.Omega.{arith}
 use native.Mathlib.Decide.{ℕ-discrete}
-use borrow.Author.Count.{below-more}
 use borrow.Author.Tests.{eq-eqb, ne-eqb}
 use lib.Dec.{eqb}
 use lib.IntN.{ℤ}
 use lib.ListN.{length, getD}
 use Rattle.rows.specs.Row.{nth, some}
 use Rattle.rows.proofs.Row.{some-at, some-never, or-true, and-false, both-true}
-use Rattle.rows.specs.Bit.{has, bitAt}
+use Rattle.rows.specs.Bit.{has}
 use Rattle.bits.specs.Field.{setBit}
-use Rattle.bits.proofs.ReadAsPut.{length-setBit, bit-same, bit-other}
 use Rattle.verdict.specs.Case.{Case, on, Fits}
 use Rattle.verdict.specs.Record.{recordAt, verdictIn, names}
 use Rattle.verdict.specs.Update.{Shortlisted, not-served, not-carrying, is-touched, names-touched, Updated}
 use Rattle.state.specs.Call.{lent}
 use Rattle.record.specs.Inside.{listed}
-use Rattle.state.proofs.TrueRecords.{none, none-has}
-use Rattle.state.specs.Inside.{Differs, Changed, Rewriting, judgedOf}
-use Rattle.outage.specs.Inside.{listedIf, listedAt, Listing, Marked}
+use Rattle.state.specs.Inside.{Differs, Changed, Listing, Rewriting, judgedOf}
+use Rattle.state.proofs.Rewriting.{renewed}
+use Rattle.state.proofs.Noting.{bit-noted, bit-left}
+use Rattle.outage.specs.Inside.{listedIf, listedAt, Marked}
 use Rattle.outage.specs.Promise.{Judges}
 
 -- ---- The bits of touched branches.
 pub marked : {n : ℕ} {a b : List ℕ} {k : ℕ} {row : List ℕ} → n ≤ 256 → k < n → Changed n a b k row → Marked n a b k (setBit row k 1)
 marked {n} {a} {b} {k} {row} few u c =
-    let here : has (setBit row k 1) k ≡ true = eq-eqb (bitAt (setBit row k 1) k) 1 (bit-same row k 1 (omega arith) (omega (arith, c .long))) in
-    let there : (j : ℕ) → (j ≡ k → ⊥) → has (setBit row k 1) j ≡ has row j = λ j q. rw (bit-other row k j 1 (omega arith) q) refl in
     record {
       itself = here;
-      differing = λ j v d. differ j v d here there (ℕ-discrete j k);
-      only = λ j q. one j q there (ℕ-discrete j k);
+      differing = λ j v d. differ j v d (ℕ-discrete j k);
+      only = λ j q. one j q (ℕ-discrete j k);
     }
   where
-    differ : (j : ℕ) → j < n → (nth a j ≡ nth b j → ⊥) → has (setBit row k 1) k ≡ true → ((j : ℕ) → (j ≡ k → ⊥) → has (setBit row k 1) j ≡ has row j) → Dec (j ≡ k) → has (setBit row k 1) j ≡ true
-    differ j v d here there (yes e) = rw e here
-    differ j v d here there (no m) = there j m ∙ c .names j v m d
+    here : has (setBit row k 1) k ≡ true
+    here = bit-noted row k (c .long) (omega arith)
 
-    one : (j : ℕ) → has (setBit row k 1) j ≡ true → ((j : ℕ) → (j ≡ k → ⊥) → has (setBit row k 1) j ≡ has row j) → Dec (j ≡ k) → (j ≡ k) ⊎ Differs n a b k j
-    one j q there (yes e) = inl e
-    one j q there (no m) = inr (c .named j (sym (there j m) ∙ q))
+    differ : (j : ℕ) → j < n → (nth a j ≡ nth b j → ⊥) → Dec (j ≡ k) → has (setBit row k 1) j ≡ true
+    differ j v d (yes e) = rw e (bit-noted row k (c .long) (omega arith))
+    differ j v d (no m) = bit-left row k j m ∙ c .names j v m d
+
+    one : (j : ℕ) → has (setBit row k 1) j ≡ true → Dec (j ≡ k) → (j ≡ k) ⊎ Differs n a b k j
+    one j q (yes e) = inl e
+    one j q (no m) = inr (c .named j (sym (bit-left row k j m) ∙ q))
 
 -- ---- The test of one record.
 module _ (serving : Bool) (touched rec : List ℕ) (k : ℕ) where
@@ -59,50 +59,17 @@ module _ (serving : Bool) (touched rec : List ℕ) (k : ℕ) where
   unfolding listedIf
   by-record e h = rw (e, h) refl
 
--- ---- The bits of the listed records, one after another.
-module _ (n : ℕ) (served : List Bool) (touched table : List ℕ) where
-  pub record Noting (row : List ℕ) (k : ℕ) : Type 0 where
-    pub few : n ≤ 256
-    pub room : 52 * n ≤ length table
-    pub upto : k ≤ n
-    pub long : length row ≡ 32
-    pub so-far : (j : ℕ) → j < k → has row j ≡ listedAt served touched table j
-    pub beyond : (j : ℕ) → k ≤ j → has row j ≡ false
-
-  pub noting-none : n ≤ 256 → 52 * n ≤ length table → Noting (none 32) 0
-  noting-none f r = record { few = f; room = r; upto = omega arith; long = refl; so-far = λ j u. absurd (omega arith); beyond = λ j u. none-has 32 j }
-
-  pub noting-set : {row rec : List ℕ} {k : ℕ} {t : Bool} → Noting row k → k < n → t ≡ listedIf (getD served k false) touched rec k → rec ≡ recordAt table k → t ≡ true → Noting (setBit row k 1) (k + 1)
-  noting-set {row} {rec} {k} c u i r e =
-      let here : has (setBit row k 1) k ≡ true = eq-eqb (bitAt (setBit row k 1) k) 1 (bit-same row k 1 (omega arith) (omega (arith, c .few, c .long))) in
-      let there : (j : ℕ) → (j ≡ k → ⊥) → has (setBit row k 1) j ≡ has row j = λ j q. rw (bit-other row k j 1 (omega arith) q) refl in
-      record {
-        few = c .few;
-        room = c .room;
-        upto = omega arith;
-        long = length-setBit row k 1 ∙ c .long;
-        so-far = below-more _ k (λ j v. there j (λ q. omega arith) ∙ c .so-far j v) (here ∙ sym e ∙ i ∙ ap (λ (x : List ℕ). listedIf (getD served k false) touched x k) r);
-        beyond = λ j v. there j (λ q. omega arith) ∙ c .beyond j (omega arith);
-      }
-
-  pub noting-skip : {row rec : List ℕ} {k : ℕ} {t : Bool} → Noting row k → k < n → t ≡ listedIf (getD served k false) touched rec k → rec ≡ recordAt table k → t ≡ false → Noting row (k + 1)
-  noting-skip {row} {rec} {k} c u i r e = record {
-    few = c .few;
-    room = c .room;
-    upto = omega arith;
-    long = c .long;
-    so-far = below-more _ k (c .so-far) (c .beyond k (omega arith) ∙ sym e ∙ i ∙ ap (λ (x : List ℕ). listedIf (getD served k false) touched x k) r);
-    beyond = λ j v. c .beyond j (omega arith);
-  }
-
-  pub noting-all : {row : List ℕ} {k : ℕ} → Noting row k → k ≡ n → Listing n served touched table row
-  noting-all {row} {k} c e = record { bit = λ j u. c .so-far j (omega arith) }
+-- The test on a stretch is that of the record.
+pub tested : (served : List Bool) (touched table : List ℕ) (k : ℕ) {rec : List ℕ} {t v : Bool} → t ≡ listedIf (getD served k false) touched rec k → rec ≡ recordAt table k → t ≡ v
+    → listedAt served touched table k ≡ v
+unfolding listedAt
+tested served touched table k {rec} i r e = sym (ap (λ (x : List ℕ). listedIf (getD served k false) touched x k) r) ∙ sym i ∙ e
 
 -- ---- The test is the shortlist.
 module _ (C : Case) (served : List Bool) (touched : List ℕ) (T : ℕ → Type 0) (few : C .branches ≤ 256) (served-is : (k : ℕ) → getD served k false ≡ C .served k)
     (marks : (j : ℕ) → j < C .branches → T j → has touched j ≡ true) (marked-only : (j : ℕ) → has touched j ≡ true → (j < C .branches) × T j) (table : List ℕ) where
   pub shortlisted-listed : (k : ℕ) → k < C .branches → Shortlisted C table T k → listedAt served touched table k ≡ true
-  unfolding listedIf listed
+  unfolding listedAt listedIf listed
   shortlisted-listed k u (not-served e) = rw (served-is k, e) refl
   shortlisted-listed k u (not-carrying n) =
       rw (ne-eqb (verdictIn (recordAt table k)) 1 n) (or-two (not (getD served k false)) (has touched k) true refl)
@@ -125,7 +92,7 @@ module _ (C : Case) (served : List Bool) (touched : List ℕ) (T : ℕ → Type 
 
   -- Off the shortlist the test says no.
   pub unlisted : (k : ℕ) → k < C .branches → (Shortlisted C table T k → ⊥) → listedAt served touched table k ≡ false
-  unfolding listedIf listed
+  unfolding listedAt listedIf listed
   unlisted k u no-short = all-false _ _ _ _
       (by (not (getD served k false)) (λ e. no-short (not-served (sym (served-is k) ∙ turned _ e))))
       (by (has touched k) (λ e. no-short (is-touched (marked-only k e .1))))
@@ -150,15 +117,11 @@ module _ (C : Case) (served : List Bool) (touched : List ℕ) (T : ℕ → Type 
           no-short (names-touched j (m .0) (w .0) (m .1)))
 
   -- The bits of the shortlist.
-  module _ (bits : List ℕ) (shown : Listing (C .branches) served touched table bits) where
+  module _ (bits : List ℕ) (shown : Listing (C .branches) (listedAt served touched table) bits) where
     pub updated : {bs bs′ : List ℕ} {flow flow′ : List ℤ} {table′ : List ℕ} → Fits C (C .limit) (on flow′) → Rewriting C (on flow′) bits (C .branches) table table′
         → length flow′ ≡ length flow → ((k : ℕ) → C .branches ≤ k → on flow′ k ≡ on flow k) → Updated C T (lent bs flow table) (lent bs′ flow′ table′)
-    updated fits r long rest = record {
-      fits = fits;
-      rewritten = λ k u h. r .rewritten k u (shown .bit k u ∙ shortlisted-listed k u h);
-      kept = λ k u h. r .kept k u (shown .bit k u ∙ unlisted k u h);
-      beyond = record { flow-long = long; flow-rest = rest; table-long = r .long; table-rest = r .rest };
-    }
+    updated fits r =
+        renewed C (Shortlisted C table T) fits r (λ k u h. shown .bit k u ∙ shortlisted-listed k u h) (λ k u h. shown .bit k u ∙ unlisted k u h)
 
     -- The losses counted are those of shortlisted records in service.
     pub judges : {n : ℕ} → n ≡ judgedOf served bits (C .branches) → Judges C T table n

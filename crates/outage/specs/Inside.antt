@@ -15,12 +15,9 @@ use Rattle.state.specs.Inside.{Differs}
 unfoldable pub listedIf : Bool → List ℕ → List ℕ → ℕ → Bool
 listedIf serving touched rec k = not serving || (has touched k || listed rec touched)
 
-abbrev pub listedAt : List Bool → List ℕ → List ℕ → ℕ → Bool
+-- `shortlist`: the same of record k of a table.
+unfoldable pub listedAt : List Bool → List ℕ → List ℕ → ℕ → Bool
 listedAt served touched table k = listedIf (getD served k false) touched (recordAt table k) k
-
--- `shortlist`: the bits of the listed ones of the first n records.
-pub record Listing (n : ℕ) (served : List Bool) (touched table bits : List ℕ) : Type 0 where
-  pub bit : (k : ℕ) → k < n → has bits k ≡ listedAt served touched table k
 
 -- `touch`: the bits of branch k and of the branches below n whose number in one row differs from that in the other.
 pub record Marked (n : ℕ) (a b : List ℕ) (k : ℕ) (bits : List ℕ) : Type 0 where

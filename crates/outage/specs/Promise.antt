@@ -1,24 +1,24 @@
 -- What `take_out` promises.
 use mathlib.Core.Path.{_≡_}
-use mathlib.Core.Bool.{Bool, true, false, not}
-use mathlib.Core.List.{List, [], _∷_}
+use mathlib.Core.Bool.{Bool, true, false}
+use mathlib.Core.List.{List, _∷_}
 use Prim.Native.Nat.{ℕ, _<_}
-use lib.Dec.{leb}
 use lib.IntN.{ℤ, pos}
 use lib.ListN.{length}
 use Rattle.rows.specs.Sum.{over}
-use Rattle.answer.specs.Answer.{accepted, refuseIf, andThen}
+use Rattle.answer.specs.Answer.{accepted}
 use Rattle.answer.specs.declared.Outcome.{Outcome}
 use Rattle.answer.specs.declared.Outcome.the-variants.{Accepted}
 use Rattle.answer.specs.declared.Answer.{Answer}
 use Rattle.bits.specs.Field.{setBit}
-use Rattle.layout.specs.Layout.{busesIn, branchesIn, statusBit}
+use Rattle.layout.specs.Layout.{busesIn, statusBit}
 use Rattle.layout.specs.Check.{checkOf}
 use Rattle.verdict.specs.Case.{Case, out, on, Fits}
 use Rattle.verdict.specs.Record.{recordAt, names}
 use Rattle.verdict.specs.Update.{Lent, Shortlisted, Updated}
 use Rattle.state.specs.Case.{caseIn}
-use Rattle.state.specs.Call.{lentCheck, Ends}
+use Rattle.state.specs.Call.{Ends}
+use Rattle.switch.specs.Check.{branchCheck, branchNumbers}
 use Rattle.outage.specs.declared.Taken.{Taken}
 
 -- Touched: the branch taken out, and each branch whose flow differs before and after.
@@ -30,16 +30,12 @@ pub data Touched (f g : ℕ → ℤ) (b j : ℕ) : Type 0 where
 abbrev pub Confined : Case → (ℕ → ℤ) → List ℕ → ℕ → (ℕ → ℤ) → Type 0
 Confined C f rec b g = (j : ℕ) → j < C .branches → (j ≡ b → ⊥) → names rec j ≡ false → g j ≡ f j
 
--- Refusals 1 to 8 as of every call, then 9: no such branch; 10: already out.
-unfoldable pub takeCheck : List ℕ → ℕ → ℕ → ℕ → Outcome
-takeCheck bs flows bytes b =
-    andThen (lentCheck bs flows bytes)
-    (refuseIf (leb (branchesIn bs) b) 9
-    (refuseIf (not (caseIn bs .served b)) 10
-    Accepted))
+-- Refusals 1 to 8, then 9, then 10: already out.
+abbrev pub takeCheck : List ℕ → ℕ → ℕ → ℕ → Outcome
+takeCheck bs flows bytes b = branchCheck bs flows bytes b 0 10
 
 abbrev pub takeNumbers : List ℕ
-takeNumbers = 1 ∷ 2 ∷ 3 ∷ 4 ∷ 5 ∷ 6 ∷ 7 ∷ 8 ∷ 9 ∷ 10 ∷ []
+takeNumbers = 10 ∷ branchNumbers
 
 -- An accepted call: the one status bit, the flow and the shortlist.
 pub record TakenOut (b : ℕ) (before after : Lent) : Type 0 where

@@ -1,12 +1,12 @@
 // Taking a branch out of service: the flow is rerouted, and the records on the shortlist are written anew.
 ghost use mathlib.Core.Path.{_≡_};
-ghost use mathlib.Core.Bool.{false};
 ghost use Prim.Native.Nat.{_*_, _<_, _≤_};
-ghost use lib.ListN.{length, set};
+ghost use lib.ListN.{length};
 ghost use Rattle.answer.specs.Answer.{bare, overloaded};
 ghost use Rattle.state.specs.Call.{lent};
-ghost use Rattle.outage.specs.Inside.{Marked, listedIf, Listing};
-ghost use Rattle.outage.specs.Promise.{takeCheck, TakeEnds, TakeCounted};
+ghost use Rattle.state.specs.Inside.{Listing};
+ghost use Rattle.outage.specs.Inside.{Marked, listedIf, listedAt};
+ghost use Rattle.outage.specs.Promise.{TakeEnds, TakeCounted};
 use answer::Answer;
 use answer::Outcome;
 use reroute::Verdict;
@@ -38,7 +38,7 @@ fn is_listed(rec: &[u8], serving: bool, touched: [u8; 32], k: usize) -> bool
 // The bits of the shortlist, from the table as it was lent.
 fn shortlist(table: &[u8], branches: usize, served: [bool; 256], touched: [u8; 32]) -> [u8; 32]
     requires { ⌜ (branches ≤ 256) × (52 * branches ≤ length (now table)) ⌝ }
-    ensures { λ r. ⌜ Listing branches served touched (now (table .entry)) r ⌝ }
+    ensures { λ r. ⌜ Listing branches (listedAt served touched (now (table .entry))) r ⌝ }
 {
     let mut row = [0u8; 32];
     let mut k: usize = 0;
@@ -48,43 +48,6 @@ fn shortlist(table: &[u8], branches: usize, served: [bool; 256], touched: [u8; 3
         }
         k += 1;
     }
-    row
-}
-
-// Refusals 1 to 10.
-fn check(book: &[u8], flows: usize, bytes: usize, branch: usize) -> Outcome
-    ensures { λ r. ⌜ r ≡ takeCheck (now (book .entry)) flows bytes branch ⌝ }
-{
-    let found = state::check_lent(book, flows, bytes);
-    let Outcome::Accepted = found else {
-        return found;
-    };
-    let head = layout::head_of(book);
-    if head.branches <= branch {
-        return answer::refuse(9);
-    }
-    let x = layout::branch_at(book, head.buses, branch);
-    if x.status != 1 {
-        return answer::refuse(10);
-    }
-    Outcome::Accepted
-}
-
-fn closed(served: [bool; 256], k: usize) -> [bool; 256]
-    requires { ⌜ k < 256 ⌝ }
-    ensures { λ r. ⌜ r ≡ set served k false ⌝ }
-{
-    let mut row = served;
-    row[k] = false;
-    row
-}
-
-fn cut(live: [u32; 256], k: usize) -> [u32; 256]
-    requires { ⌜ k < 256 ⌝ }
-    ensures { λ r. ⌜ r ≡ set live k 0 ⌝ }
-{
-    let mut row = live;
-    row[k] = 0;
     row
 }
 
@@ -116,21 +79,18 @@ fn short(excess: u32, group: [u8; 16]) -> Taken
 pub fn take_out_counted(book: &mut [u8], flow: &mut [i32], table: &mut [u8], branch: usize) -> Taken
     ensures { λ r. ⌜ TakeCounted branch (lent (now (book .entry)) (now (flow .entry)) (now (table .entry))) (lent (now (book .exit)) (now (flow .exit)) (now (table .exit))) r ⌝ }
 {
-    let found = check(book, flow.len(), table.len(), branch);
+    let found = switch::check(book, flow.len(), table.len(), branch, 0, 10);
     let Outcome::Accepted = found else {
         return told(found, 0);
     };
-    let plan = state::prepare(book::rows_of(book));
-    let wires = plan.wires;
-    let live = plan.live;
-    let gain = plan.gain;
-    let load = plan.load;
-    let lending = fit::test(flow, wires, live, gain, load);
-    let fits = lending.fits;
+    let lent = state::survey_lent(book, flow);
+    let fits = lent.fits;
     if !fits {
         return told(answer::refuse(11), 0);
     }
-    let latent = lending.latent;
+    let wires = lent.wires;
+    let live = lent.live;
+    let latent = lent.latent;
     let named = record::reroute_of(record::stretch(table, branch));
     let judged = replace::replace(wires, live, latent, named, branch);
     let verdict = judged.verdict;
@@ -141,10 +101,10 @@ pub fn take_out_counted(book: &mut [u8], flow: &mut [i32], table: &mut [u8], bra
     let before = latent.ahead;
     let left = judged.latent;
     let after = left.ahead;
-    let serving = plan.served;
+    let serving = lent.served;
     let touched = touch(wires.branches, before, after, branch);
-    let served = closed(serving, branch);
-    let limits = cut(live, branch);
+    let served = switch::served_with(serving, branch, false);
+    let limits = switch::kw_with(live, branch, 0);
     let listed = shortlist(table, wires.branches, served, touched);
     state::fill_flow(flow, wires.branches, limits, after);
     let losses = state::rewrite(table, wires, served, limits, left, listed);

@@ -1,7 +1,9 @@
 // The stretch of a branch, 52 bytes out of the middle of the lent table: cut, written, read, and tested for the shortlist.
 ghost use mathlib.Core.Path.{_≡_};
 ghost use Prim.Native.Nat.{_+_, _*_, _≤_, _<_};
+ghost use lib.Dec.{eqb};
 ghost use lib.ListN.{length, take, drop};
+ghost use Rattle.verdict.specs.Record.{verdictIn};
 ghost use Rattle.record.specs.Inside.{Stretch, recordBytes, Read, listed};
 
 // What a record shows of its branch.
@@ -76,12 +78,20 @@ pub fn reroute_of(rec: &[u8]) -> [u8; 32]
     reroute
 }
 
+// Byte 0 is 1.
+pub fn carries(rec: &[u8]) -> bool
+    requires { ⌜ length (now rec) ≡ 52 ⌝ }
+    ensures { λ r. ⌜ r ≡ eqb (verdictIn (now (rec .entry))) 1 ⌝ }
+{
+    rec[0] == 1
+}
+
 // Byte 0 isn't 1, or the reroute names a touched branch. A byte of both is tested at once.
 pub fn is_listed(rec: &[u8], touched: [u8; 32]) -> bool
     requires { ⌜ length (now rec) ≡ 52 ⌝ }
     ensures { λ r. ⌜ r ≡ listed (now (rec .entry)) touched ⌝ }
 {
-    if rec[0] != 1 {
+    if !carries(rec) {
         return true;
     }
     let mut i: usize = 0;

@@ -8,3 +8,5 @@ pub mod Status
 pub mod OneOverload
 pub mod Checked
 pub mod ProperAnswer
+pub mod Surveying
+pub mod Noting

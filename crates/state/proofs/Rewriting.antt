@@ -16,8 +16,10 @@ use Rattle.rows.specs.Sum.{over, pick}
 use Rattle.rows.proofs.Row.{length-placed, placed-mid, placed-high, placed-other}
 use Rattle.search.specs.declared.Wires.{Wires}
 use Rattle.search.specs.declared.Latent.{Latent}
-use Rattle.verdict.specs.Case.{Case}
+use Rattle.verdict.specs.Case.{Case, on, Fits}
 use Rattle.verdict.specs.Record.{recordAt, TrueRecord}
+use Rattle.verdict.specs.Update.{Renewed}
+use Rattle.state.specs.Call.{lent}
 use Rattle.state.specs.Inside.{State, Poised, Rewriting, judgedOf, Rewritten}
 
 -- Records past the place written so far are as they were lent.
@@ -119,3 +121,15 @@ module _ (W : Wires) (served : List Bool) (live : List ℕ) (lat : Latent) (list
   going-all {t₀} {t} {n} {k} g e C f s =
       let b : k ≡ C .branches = e ∙ s .held .branches-are in
       record { table-is = rw b at (g .so-far C f s); judged-is = g .judged-is ∙ ap (judgedOf served listed) b }
+
+-- What a call renews, where the bits are those of its list.
+pub renewed : (C : Case) (listed : ℕ → Type 0) {bs bs′ : List ℕ} {flow flow′ : List ℤ} {table table′ bits : List ℕ} → Fits C (C .limit) (on flow′)
+    → Rewriting C (on flow′) bits (C .branches) table table′
+    → ((k : ℕ) → k < C .branches → listed k → has bits k ≡ true) → ((k : ℕ) → k < C .branches → (listed k → ⊥) → has bits k ≡ false)
+    → length flow′ ≡ length flow → ((k : ℕ) → C .branches ≤ k → on flow′ k ≡ on flow k) → Renewed C listed (lent bs flow table) (lent bs′ flow′ table′)
+renewed C listed fits r yes-bits no-bits long rest = record {
+  fits = fits;
+  rewritten = λ k u h. r .rewritten k u (yes-bits k u h);
+  kept = λ k u h. r .kept k u (no-bits k u h);
+  beyond = record { flow-long = long; flow-rest = rest; table-long = r .long; table-rest = r .rest };
+}

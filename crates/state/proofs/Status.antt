@@ -1,23 +1,25 @@
 -- The book with one status bit set or cleared makes the case with that branch in or out of service.
 use mathlib.Core.Path.{_≡_, refl, sym, ap, _∙_, fun-ext}
-use mathlib.Core.Bool.{cond}
+use mathlib.Core.Bool.{true, cond}
 use mathlib.Core.List.{List}
-use Prim.Native.Nat.{ℕ, _<_}
+use Prim.Native.Nat.{ℕ, _+_, _*_, _<_}
 use native.Mathlib.Omega.{arith}
 use native.Mathlib.Decide.{ℕ-discrete}
-use borrow.Author.Tests.{eq-eqb, ne-eqb}
+use borrow.Author.Tests.{eq-eqb, ne-eqb, eqb-true}
 use lib.Dec.{eqb}
 use lib.ListN.{length-set}
 use lib.Seq.{getD-set-same, getD-set-other}
+use Rattle.rows.specs.Bit.{bitAt}
 use Rattle.answer.specs.declared.Outcome.the-variants.{Accepted}
 use Rattle.quantity.specs.Rating.{limitOf}
 use Rattle.bits.specs.Field.{setBit}
+use Rattle.bits.proofs.ReadAsPut.{field-one}
 use Rattle.layout.specs.declared.Branch.{Branch}
 use Rattle.layout.specs.Book.{Book, count, branch, noBranch, restated}
 use Rattle.layout.specs.Book as book
-use Rattle.layout.specs.Layout.{busesIn, branchesIn, statusBit, bookOf}
+use Rattle.layout.specs.Layout.{busesIn, branchesIn, branchStart, statusBit, branchAt, bookOf}
 use Rattle.layout.specs.Check.{checkOf}
-use Rattle.layout.proofs.WellFormed.{count-of}
+use Rattle.layout.proofs.WellFormed.{count-of, branch-of}
 use Rattle.layout.proofs.StatusChanged.{status-accepted, status-book}
 use Rattle.verdict.specs.Case.{Case, withStatus}
 use Rattle.state.specs.Case.{caseOf, caseIn}
@@ -85,3 +87,15 @@ restates bs b v e l u =
       case-is = c;
       count-is = sym (branches-of bs′) ∙ ap (λ (C : Case). C .branches) c ∙ branches-of bs;
     }
+
+-- ---- The status of a branch in service.
+module _ (bs : List ℕ) (b : ℕ) (there : b < branchesIn bs) (in-service : caseIn bs .served b ≡ true) where
+  pub served-status : branchAt bs b .status ≡ 1
+  unfolding caseOf
+  served-status = ap (λ (x : Branch). x .status) (sym (branch-of bs b there)) ∙ eqb-true _ 1 in-service
+
+  pub served-bit : bitAt bs (statusBit (busesIn bs) b) ≡ 1
+  served-bit =
+      let p = branchStart (busesIn bs) + 35 * b in
+      let q : p + 7 + 7 + 20 ≡ statusBit (busesIn bs) b = omega arith in
+      rw (← q) (sym (field-one bs (p + 7 + 7 + 20)) ∙ served-status)

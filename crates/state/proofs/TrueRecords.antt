@@ -151,7 +151,7 @@ module _ (C : Case) (f : ℕ → ℤ) (W : Wires) (served : List Bool) (live : L
       }
 
   -- A branch without flow is spared as it stands.
-  still-fits : (k : ℕ) → k < C .branches → f k ≡ pos 0 → Fits (out C k) (C .loss-limit) f
+  pub still-fits : (k : ℕ) → k < C .branches → f k ≡ pos 0 → Fits (out C k) (C .loss-limit) f
   still-fits k u z = record {
     still = λ j v o. elim (side j k) [
       | below l ↦ s .fits .still j v (sym (served-other C k false j (λ e. omega arith)) ∙ o)

@@ -16,9 +16,14 @@ use Rattle.search.specs.InsideLinks.{Linkable, Wiring, Linked}
 use Rattle.search.specs.declared.Wires.{Wires}
 use Rattle.search.specs.declared.Latent.{Latent}
 use Rattle.book.specs.declared.CaseRows.{CaseRows}
-use Rattle.verdict.specs.Case.{Case, Posed, Fits}
-use Rattle.state.specs.declared.Plan.{Plan}
+use Rattle.answer.specs.declared.Outcome.the-variants.{Accepted}
+use Rattle.layout.specs.Layout.{busesIn, branchesIn}
+use Rattle.layout.specs.Check.{checkOf}
+use Rattle.verdict.specs.Case.{Case, Posed, on, Fits}
 use Rattle.verdict.specs.Record.{recordAt, TrueRecord}
+use Rattle.state.specs.Case.{caseIn}
+use Rattle.state.specs.declared.Plan.{Plan}
+use Rattle.state.specs.declared.Survey.{Survey}
 
 -- The wires, the service and the limits of a case: a branch out of service has limit 0 in the row `live`.
 pub record Held (C : Case) (W : Wires) (served : List Bool) (live : List ℕ) : Type 0 where
@@ -63,6 +68,19 @@ pub record Planned (r : CaseRows) (q : Plan) : Type 0 where
   pub same-gain : q .gain ≡ r .gain
   pub same-load : q .load ≡ r .load
 
+-- `survey_lent`: an accepted book and a flow long enough for it; whether the flow fits, and the rows of the case with what the flow leaves.
+pub record Surveyable (bs : List ℕ) (flows : ℕ) : Type 0 where
+  pub book : checkOf bs ≡ Accepted
+  pub flow-room : branchesIn bs ≤ flows
+
+pub record Surveyed (bs : List ℕ) (flow : List ℤ) (r : Survey) : Type 0 where
+  pub held : Held (caseIn bs) (r .wires) (r .served) (r .live)
+  pub buses-are : r .wires .buses ≡ busesIn bs
+  pub branches-are : r .wires .branches ≡ branchesIn bs
+  pub limit-is : (k : ℕ) → kwAt (r .limit) k ≡ caseIn bs .loss-limit k
+  pub fitting : r .fits ≡ true → State (caseIn bs) (on flow) (r .wires) (r .served) (r .live) (r .latent)
+  pub unfit : r .fits ≡ false → Fits (caseIn bs) (caseIn bs .limit) (on flow) → ⊥
+
 -- `fill_flow`: the differences of the first n numbers of two rows are flows that fit, and there is room for them.
 pub record Fillable (n : ℕ) (live ahead : List ℕ) (room : ℕ) : Type 0 where
   pub few : n ≤ 256
@@ -80,6 +98,10 @@ pub record Changed (n : ℕ) (a b : List ℕ) (k : ℕ) (bits : List ℕ) : Type
   pub bytes : Bytes bits
   pub named : (j : ℕ) → has bits j ≡ true → Differs n a b k j
   pub names : (j : ℕ) → j < n → (j ≡ k → ⊥) → (nth a j ≡ nth b j → ⊥) → has bits j ≡ true
+
+-- The bits of those of the first n records that t lists.
+pub record Listing (n : ℕ) (t : ℕ → Bool) (bits : List ℕ) : Type 0 where
+  pub bit : (k : ℕ) → k < n → has bits k ≡ t k
 
 -- The listed ones of the first n records were written true, and nothing else.
 pub record Rewriting (C : Case) (f : ℕ → ℤ) (listed : List ℕ) (n : ℕ) (t t′ : List ℕ) : Type 0 where

@@ -1,7 +1,6 @@
 // What every call on a lent book shares: the checks before it, the rows of its case, and records written from them.
 // What is public here serves the calls alone, which meet what it requires.
 ghost use mathlib.Core.Path.{_≡_};
-ghost use mathlib.Core.Bool.{true};
 ghost use Prim.Native.Nat.{ℕ, _+_, _*_, _<_, _≤_};
 ghost use lib.IntN.{ℤ, pos, _-ℤ_};
 ghost use lib.ListN.{length};
@@ -10,7 +9,7 @@ ghost use Rattle.rows.specs.Sum.{pick};
 ghost use Rattle.verdict.specs.Case.{Case};
 ghost use Rattle.verdict.specs.Record.{TrueRecord};
 ghost use Rattle.state.specs.Call.{lentCheck};
-ghost use Rattle.state.specs.Inside.{State, Poised, Changed, Live, Plannable, Planned, Fillable, Rewritten};
+ghost use Rattle.state.specs.Inside.{State, Poised, Changed, Live, Plannable, Planned, Surveyable, Surveyed, Fillable, Rewritten};
 use answer::Outcome;
 use book::CaseRows;
 use quantity::Kw;
@@ -79,6 +78,41 @@ pub fn prepare(rows: CaseRows) -> Plan
         live,
         gain,
         load,
+    }
+}
+
+// A lent book and flow: its rows, whether the flow fits, and the latent capacities that a fitting flow leaves.
+pub struct Survey {
+    pub wires: Wires,
+    pub served: [bool; 256],
+    pub limit: [Kw; 256],
+    pub live: [u32; 256],
+    pub fits: bool,
+    pub latent: Latent,
+}
+
+pub fn survey_lent(book: &[u8], flow: &[i32]) -> Survey
+    requires { ⌜ Surveyable (now book) (length (now flow)) ⌝ }
+    ensures { λ r. ⌜ Surveyed (now (book .entry)) (now (flow .entry)) r ⌝ }
+{
+    let rows = book::rows_of(book);
+    let limit = rows.limit;
+    let plan = prepare(rows);
+    let wires = plan.wires;
+    let served = plan.served;
+    let live = plan.live;
+    let gain = plan.gain;
+    let load = plan.load;
+    let lending = fit::test(flow, wires, live, gain, load);
+    let fits = lending.fits;
+    let latent = lending.latent;
+    Survey {
+        wires,
+        served,
+        limit,
+        live,
+        fits,
+        latent,
     }
 }
 

@@ -1,10 +1,10 @@
-// Commands that make a call and write its answer: `S` and `O` here, the others in `tables`. Each answers how many bytes of the stream it took, and 0
+// Commands that make a call and write its answer: `S`, `O` and `K` here, the others in `tables`. Each answers how many bytes of the stream it took, and 0
 // where it is bad.
 ghost use mathlib.Core.Path.{_≡_};
 ghost use Prim.Native.Nat.{_<_, _≤_};
 ghost use lib.ListN.{length};
 ghost use Rattle.state.specs.Call.{lent};
-ghost use Rattle.trial.specs.InsideCalls.{Sized, ScreenRun, OutRun, CallRun};
+ghost use Rattle.trial.specs.InsideCalls.{Sized, ScreenRun, OutRun, BackRun, CallRun};
 use line::answer_line;
 use line::hex_line;
 use line::signed_line;
@@ -54,6 +54,30 @@ fn run_out(rest: &[u8], book: &mut [u8], bytes: usize, flow: &mut [i32], table: 
     k.end
 }
 
+// `K`.
+fn run_back(rest: &[u8], book: &mut [u8], bytes: usize, flow: &[i32], table: &mut [u8]) -> usize
+    requires { ⌜ (0 < length (now rest)) × (bytes ≤ length (now book)) ⌝ }
+    ensures { λ r. ⌜ BackRun (now (rest .entry)) bytes (lent (now (book .entry)) (now (flow .entry)) (now (table .entry))) (lent (now (book .exit)) (now (flow .entry)) (now (table .exit))) r ⌝ }
+    ensures { λ r. ⌜ r ≤ length (now (rest .entry)) ⌝ }
+{
+    let a = number_at(rest, 1, flow.len());
+    let b = number_at(rest, a.end, table.len());
+    let k = number_at(rest, b.end, 65535);
+    if k.end == 0 {
+        return 0;
+    }
+    let flows = a.value;
+    let records = b.value;
+    let answer = restore::bring_back(
+        &mut book[0..bytes],
+        &flow[0..flows],
+        &mut table[0..records],
+        k.value,
+    );
+    answer_line(b"back", answer);
+    k.end
+}
+
 fn record_line(table: &[u8], k: usize)
     requires { ⌜ (length (now table) ≡ 13312) × (k < 256) ⌝ }
 {
@@ -75,7 +99,7 @@ fn dump(book: &[u8], bytes: usize, flow: &[i32], table: &[u8])
     }
 }
 
-// `S`, `O`, `R`, `M` and `D`.
+// `S`, `O`, `K`, `R`, `M` and `D`.
 pub fn run_call(
     rest: &[u8],
     letter: u8,
@@ -95,6 +119,9 @@ pub fn run_call(
     }
     if letter == b'O' {
         return run_out(rest, book, bytes, flow, table);
+    }
+    if letter == b'K' {
+        return run_back(rest, book, bytes, flow, table);
     }
     if letter == b'R' {
         return run_read(rest, book, bytes, injections, branches);

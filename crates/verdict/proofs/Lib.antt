@@ -5,6 +5,7 @@ pub mod VerdictByCase
 pub mod Named
 pub mod Keep
 pub mod Updates
+pub mod Back
 pub mod Alike
 pub mod Rest
 pub mod Shown

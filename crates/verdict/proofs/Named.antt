@@ -15,7 +15,7 @@ use Rattle.verdict.specs.Case.{Case, Fits}
 use Rattle.verdict.specs.Record.{verdictIn, names, Zero, Rerouted, Told, is-out, carries, short}
 use Rattle.verdict.proofs.Fitting.{served-other}
 
-zero-names : (rec : List ℕ) → Zero rec 20 52 → (j : ℕ) → names rec j ≡ false
+pub zero-names : (rec : List ℕ) → Zero rec 20 52 → (j : ℕ) → names rec j ≡ false
 zero-names rec z j = rw (bit-low (take 32 (drop 20 rec)) j, byte (j / 8), low-zero (7 - j % 8)) refl
   where
     past : (i : ℕ) → 32 ≤ i → nth (take 32 (drop 20 rec)) i ≡ 0

@@ -32,7 +32,7 @@ pub record Posed (C : Case) : Type 0 where
   pub rated : (k : ℕ) → k < C .branches → C .loss-limit k ≤ 1000000
   pub rising : (k : ℕ) → k < C .branches → C .limit k ≤ C .loss-limit k
 
--- The case with the status of branch b changed; with b out of service.
+-- The case with the status of branch b changed; with b out of service; with b back in service.
 abbrev pub withStatus : Case → ℕ → Bool → Case
 withStatus C b s = record {
   buses = C .buses;
@@ -47,6 +47,9 @@ withStatus C b s = record {
 
 abbrev pub out : Case → ℕ → Case
 out C b = withStatus C b false
+
+abbrev pub back : Case → ℕ → Case
+back C b = withStatus C b true
 
 -- A flow gives each branch a signed kW, positive from its first bus to its second. A lent row of numbers gives one.
 abbrev pub on : List ℤ → ℕ → ℤ

@@ -14,6 +14,11 @@ pub fn second_book(last: u32) -> Book {
     plain(&[60, 0, -40, -20], &[(0, 1, 40), (0, 2, 40), (1, 2, last), (2, 3, 30)])
 }
 
+/// The second book with a fifth branch beside the others: a feeder 1-3 of 30 kVA.
+pub fn second_and_feeder() -> Book {
+    plain(&[60, 0, -40, -20], &[(0, 1, 40), (0, 2, 40), (1, 2, 25), (2, 3, 30), (1, 3, 30)])
+}
+
 /// 1,461 bytes that start with these: longer than any book.
 pub fn too_long(start: &[u8]) -> Vec<u8> {
     let mut bytes = start.to_vec();

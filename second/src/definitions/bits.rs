@@ -10,9 +10,10 @@ pub fn field(bytes: &[u8], at: usize, width: usize) -> u32 {
     (at..at + width).fold(0, |value, place| value << 1 | bit(bytes, place) as u32)
 }
 
-/// Clears the bit at place `at`.
-pub fn clear(bytes: &mut [u8], at: usize) {
-    bytes[at / 8] &= !(1 << (7 - at % 8));
+/// Gives the bit at place `at` a value.
+pub fn set(bytes: &mut [u8], at: usize, value: bool) {
+    let one = 1 << (7 - at % 8);
+    bytes[at / 8] = if value { bytes[at / 8] | one } else { bytes[at / 8] & !one };
 }
 
 /// Fields put one after another; bytes start as zeros, so the tail fill is zero.

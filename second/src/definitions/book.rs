@@ -31,9 +31,12 @@ pub fn length(buses: usize, count: usize) -> usize {
     (HEADER + BUS * buses + BRANCH * count).div_ceil(8)
 }
 
-/// The place of a branch's status bit.
-pub fn status_place(buses: usize, branch: usize) -> usize {
-    HEADER + BUS * buses + BRANCH * branch + BRANCH - 1
+/// The bytes of a book with one branch's status bit given a value, and no other bit changed.
+pub fn with_status(bytes: &[u8], branch: usize, served: bool) -> Vec<u8> {
+    let mut changed = bytes.to_vec();
+    let buses = bytes[0] as usize;
+    bits::set(&mut changed, HEADER + BUS * buses + BRANCH * branch + BRANCH - 1, served);
+    changed
 }
 
 /// What the bytes say, or the number of the first refusal that holds.

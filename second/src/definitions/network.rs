@@ -57,11 +57,16 @@ impl Network {
         self.injections.len()
     }
 
+    /// The same network with one branch in service or out of it.
+    pub fn with_status(&self, branch: usize, served: bool) -> Network {
+        let mut changed = self.clone();
+        changed.lines[branch].served = served;
+        changed
+    }
+
     /// The same network with one branch out of service.
     pub fn without(&self, branch: usize) -> Network {
-        let mut changed = self.clone();
-        changed.lines[branch].served = false;
-        changed
+        self.with_status(branch, false)
     }
 
     /// Whether a flow (a number a branch) fits.

@@ -1,34 +1,15 @@
 //! Taking a branch out: which answer is due, what an accepted call must leave, and one result of our own choice.
 
 use crate::definitions::answer::Answer;
-use crate::definitions::bits;
-use crate::definitions::book;
-use crate::definitions::cuts::{self, Cutter};
+use crate::definitions::cuts;
 use crate::definitions::network::Network;
 use crate::definitions::record;
 use crate::definitions::reroutes;
-use crate::definitions::screen;
+use crate::definitions::switching::{self, Judged, Lent, Way};
 
-/// What a call is lent: the book's bytes, the flow numbers and the table bytes, as long as they were lent.
-pub struct Lent<'a> {
-    pub book: &'a [u8],
-    pub flow: &'a [i64],
-    pub table: &'a [u8],
-}
-
-/// The network before an accepted call; else the refusal due.
+/// The network before an accepted call; else the refusal due: 1 to 11 in order, then 12.
 pub fn allowed(lent: &Lent, branch: usize) -> Result<Network, Answer> {
-    let book = screen::opened(lent.book, lent.flow.len(), lent.table.len())?;
-    if branch >= book.branches.len() {
-        return Err(Answer::refused(9));
-    }
-    if !book.branches[branch].served {
-        return Err(Answer::refused(10));
-    }
-    let network = Network::of(&book);
-    if !network.fits(&lent.flow[..book.branches.len()]) {
-        return Err(Answer::refused(11));
-    }
+    let network = switching::fitting(Way::Out, lent, branch)?;
     let excess = cuts::base_excess(&network.without(branch));
     if excess.amount > 0 {
         Err(Answer::overloaded(excess))
@@ -37,39 +18,16 @@ pub fn allowed(lent: &Lent, branch: usize) -> Result<Network, Answer> {
     }
 }
 
-/// The book with one status bit cleared and no other.
-pub fn changed_book(bytes: &[u8], branch: usize) -> Vec<u8> {
-    let mut changed = bytes.to_vec();
-    bits::clear(&mut changed, book::status_place(bytes[0] as usize, branch));
-    changed
-}
-
-/// What an accepted call left, beside what was judged of it.
-#[derive(Default, Debug)]
-pub struct Judged {
-    pub faults: Vec<String>,
-    /// For each branch whether it is on the shortlist.
-    pub listed: Vec<bool>,
-    pub undecided: usize,
-    /// No fitting flow kept to the recorded reroute, so that any branch could be used.
-    pub fell_back: bool,
-}
-
 /// Judges the flow and the table left by an accepted call; `network` is the one before.
 pub fn judge(network: &Network, lent: &Lent, branch: usize, flow: &[i64], table: &[u8]) -> Judged {
     let count = network.lines.len();
     let mut judged = Judged::default();
     let (before, after) = (&lent.flow[..count], &flow[..count]);
-    if lent.flow[count..] != flow[count..lent.flow.len()] {
-        judged.faults.push("the flow beyond the branch count was written".into());
-    }
-    if lent.table[record::SIZE * count..] != table[record::SIZE * count..lent.table.len()] {
-        judged.faults.push("the table beyond the branch count was written".into());
-    }
+    switching::judge_beyond(lent, count, flow, table, &mut judged);
     judge_flow(network, lent, branch, after, &mut judged);
     if judged.faults.is_empty() {
-        judged.listed = shortlist(network, lent.table, branch, before, after);
-        judge_table(&network.without(branch), lent.table, after, table, &mut judged);
+        judged.anew = shortlist(network, lent.table, branch, before, after);
+        switching::judge_table(&network.without(branch), lent, after, table, &mut judged);
     }
     judged
 }
@@ -106,21 +64,6 @@ pub fn shortlist(network: &Network, table: &[u8], branch: usize, before: &[i64],
     (0..before.len()).map(listed).collect()
 }
 
-fn judge_table(changed: &Network, lent: &[u8], flow: &[i64], table: &[u8], judged: &mut Judged) {
-    let mut cutter = Cutter::new(changed);
-    for k in 0..flow.len() {
-        let left = record::stretch(table, k);
-        if judged.listed[k] {
-            match screen::record_holds(&mut cutter, flow, k, left) {
-                Ok(decided) => judged.undecided += !decided as usize,
-                Err(fault) => judged.faults.push(format!("after the outage, {fault}")),
-            }
-        } else if left != record::stretch(lent, k) {
-            judged.faults.push(format!("record {k} is not on the shortlist, yet it changed"));
-        }
-    }
-}
-
 /// A flow and a table of our own choice, as an accepted call may leave them (only as long as the counts need).
 pub fn own_result(network: &Network, lent: &Lent, branch: usize) -> (Vec<i64>, Vec<u8>) {
     let count = network.lines.len();
@@ -131,11 +74,6 @@ pub fn own_result(network: &Network, lent: &Lent, branch: usize) -> (Vec<i64>, V
         .or_else(|| reroutes::confined(network, before, branch, &all))
         .expect("the changed book has a fitting flow");
     let listed = shortlist(network, lent.table, branch, before, &after);
-    let changed = network.without(branch);
-    let mut cutter = Cutter::new(&changed);
-    let mut table = lent.table[..record::SIZE * count].to_vec();
-    for k in (0..count).filter(|&k| listed[k]) {
-        table[record::SIZE * k..record::SIZE * (k + 1)].copy_from_slice(&screen::own_record(&mut cutter, &after, k));
-    }
+    let table = switching::own_table(&network.without(branch), lent, &after, &listed);
     (after, table)
 }

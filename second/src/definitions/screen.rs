@@ -51,6 +51,13 @@ pub fn record_holds(cutter: &mut Cutter, flow: &[i64], branch: usize, bytes: &[u
     }
 }
 
+/// Whether a flow fits and every record of a table is true of it; a reroute that stayed undecided counts as true.
+pub fn table_holds(network: &Network, flow: &[i64], table: &[u8]) -> bool {
+    let mut cutter = Cutter::new(network);
+    let holds = |branch| record_holds(&mut cutter, flow, branch, record::stretch(table, branch)).is_ok();
+    network.fits(flow) && (0..flow.len()).all(holds)
+}
+
 /// A true record of our own choice of reroute.
 pub fn own_record(cutter: &mut Cutter, flow: &[i64], branch: usize) -> [u8; record::SIZE] {
     let network = cutter.network;
@@ -62,6 +69,12 @@ pub fn own_record(cutter: &mut Cutter, flow: &[i64], branch: usize) -> [u8; reco
     let without = reroutes::confined(network, flow, branch, &all).expect("a carrying branch has a reroute");
     let differs = all.into_iter().filter(|&other| other != branch && without[other] != flow[other]);
     record::bytes(verdict, &differs.collect::<Vec<_>>())
+}
+
+/// A true table of our own choice of reroutes for a network and a fitting flow.
+pub fn own_table(network: &Network, flow: &[i64]) -> Vec<u8> {
+    let mut cutter = Cutter::new(network);
+    (0..flow.len()).flat_map(|branch| own_record(&mut cutter, flow, branch)).collect()
 }
 
 /// The verdict on every branch of a network whose base excess is 0.

@@ -1,7 +1,7 @@
 //! The faults to be planted in a copied output, by name. Each answers whether it could be planted at this command.
 
+use crate::definitions::book;
 use crate::definitions::network::{Excess, Verdict};
-use crate::definitions::outage;
 use crate::definitions::record::{self, SIZE};
 use crate::judging::plant::*;
 use crate::trial::reference::Done;
@@ -85,7 +85,7 @@ pub const FAULTS: &[(&str, Plant)] = &[
     ("an outage that clears another bit too", |done| {
         accepted_out(done, |network, branch, done| {
             let other = (0..network.lines.len()).find(|&k| k != branch && network.lines[k].served);
-            other.map(|k| done.after.book = outage::changed_book(&done.after.book, k)).is_some()
+            other.map(|k| done.after.book = book::with_status(&done.after.book, k, false)).is_some()
         })
     }),
     ("an outage that leaves the bit", |done| {

@@ -1,12 +1,14 @@
 //! How a fault is planted: what a wrong program would leave or print at one command of a stream.
 
 use crate::definitions::book;
+use crate::definitions::comeback;
 use crate::definitions::cuts::{self, Cutter};
 use crate::definitions::network::{Excess, Network, Verdict};
 use crate::definitions::outage;
 use crate::definitions::record::{self, SIZE};
 use crate::definitions::reroutes;
 use crate::definitions::screen;
+use crate::definitions::switching::Way;
 use crate::trial::reference::Done;
 use crate::trial::spaces::Spaces;
 use crate::trial::stream::Command;
@@ -39,9 +41,9 @@ pub fn read_numbers(done: &mut Done, place: usize) -> bool {
     matches!(done.command, Command::Read { .. }) && line_with(done, "injections", |words| words[place].push('1'))
 }
 
-/// Whether the command is an accepted `S` or `O`; the network is the one after it.
+/// Whether the command is an accepted `S`, `O` or `K`; the network is the one after it.
 pub fn accepted(done: &mut Done, plant: impl FnOnce(&Network, &mut Done) -> bool) -> bool {
-    let call = matches!(done.command, Command::Screen { .. } | Command::Out { .. });
+    let call = matches!(done.command, Command::Screen { .. } | Command::Switch { .. });
     if !call || done.lines[0].split(' ').nth(1) != Some("0") {
         return false;
     }
@@ -51,24 +53,30 @@ pub fn accepted(done: &mut Done, plant: impl FnOnce(&Network, &mut Done) -> bool
     plant(&Network::of(&book), done)
 }
 
-pub fn accepted_out(done: &mut Done, plant: impl FnOnce(&Network, usize, &mut Done) -> bool) -> bool {
-    let Command::Out { branch, .. } = *done.command else {
-        return false;
-    };
-    accepted(done, |network, done| plant(network, branch, done))
+/// Whether the command is an accepted `O`, or an accepted `K`; the network is the one after it, the number its branch.
+pub fn accepted_switch(wanted: Way, done: &mut Done, plant: impl FnOnce(&Network, usize, &mut Done) -> bool) -> bool {
+    match *done.command {
+        Command::Switch { way, branch, .. } if way == wanted => accepted(done, |network, done| plant(network, branch, done)),
+        _ => false,
+    }
 }
 
-/// Records that a judge looks at: all after a screen, those on the shortlist after an outage.
+pub fn accepted_out(done: &mut Done, plant: impl FnOnce(&Network, usize, &mut Done) -> bool) -> bool {
+    accepted_switch(Way::Out, done, plant)
+}
+
+/// Records that are written anew: all by a screen, those on the shortlist by an outage, those that a return writes.
 pub fn judged_records(network: &Network, done: &Done) -> Vec<usize> {
     let count = network.lines.len();
-    match *done.command {
-        Command::Out { branch, .. } => {
-            let listed =
-                outage::shortlist(network, &done.before.table, branch, &done.before.flow[..count], &done.after.flow[..count]);
-            (0..count).filter(|&k| listed[k]).collect()
+    let table = &done.before.table;
+    let anew = match *done.command {
+        Command::Switch { way: Way::Out, branch, .. } => {
+            outage::shortlist(network, table, branch, &done.before.flow[..count], &done.after.flow[..count])
         }
-        _ => (0..count).collect(),
-    }
+        Command::Switch { way: Way::Back, branch, .. } => comeback::anew(table, branch, count),
+        _ => vec![true; count],
+    };
+    (0..count).filter(|&k| anew[k]).collect()
 }
 
 /// Puts other bytes into the first judged record with this verdict for which there are any.
@@ -143,12 +151,16 @@ pub fn screened_afresh(done: &mut Done) -> bool {
         if !strays || reroutes::confined(&with, before, branch, &named).is_none() {
             return false;
         }
-        let mut cutter = Cutter::new(network);
-        let table: Vec<u8> = (0..count).flat_map(|k| screen::own_record(&mut cutter, &fresh, k)).collect();
-        done.after.flow[..count].copy_from_slice(&fresh);
-        done.after.table[..table.len()].copy_from_slice(&table);
+        left_afresh(network, &fresh, done);
         true
     })
+}
+
+/// Leaves another flow, and a table true of it.
+pub fn left_afresh(network: &Network, fresh: &[i64], done: &mut Done) {
+    let table = screen::own_table(network, fresh);
+    done.after.flow[..fresh.len()].copy_from_slice(fresh);
+    done.after.table[..table.len()].copy_from_slice(&table);
 }
 
 pub fn kept_record_written(done: &mut Done) -> bool {

@@ -1,6 +1,7 @@
 //! How many answers of each kind were compared.
 
 use crate::definitions::network::Network;
+use crate::definitions::switching::Judged;
 use std::collections::BTreeMap;
 
 #[derive(Default)]
@@ -37,9 +38,22 @@ impl Tally {
             ("with a limit of 0 in service", network.lines.iter().any(|line| line.served && line.limit == 0)),
             ("with branches out", network.lines.iter().any(|line| !line.served)),
         ];
+        self.kinds(call, &kinds);
+    }
+
+    /// Counts an accepted call under each kind that holds of it.
+    pub fn kinds(&mut self, call: &str, kinds: &[(&str, bool)]) {
         for (kind, _) in kinds.iter().filter(|(_, holds)| *holds) {
             self.count(&format!("{call} accepted, {kind}"));
         }
+    }
+
+    /// Counts the records that a switching call wrote anew and those that it kept.
+    pub fn records(&mut self, call: &str, anew: &str, judged: &Judged) {
+        let written = judged.anew.iter().filter(|anew| **anew).count();
+        self.add(&format!("{call}: records {anew}"), written);
+        self.add(&format!("{call}: records kept"), judged.anew.len() - written);
+        self.add(&format!("{call}: reroutes undecided"), judged.undecided);
     }
 }
 

@@ -3,18 +3,20 @@
 use crate::books::random::Random;
 use crate::books::random_books::{counts, served, strained};
 use crate::definitions::book::{self, pack, Book};
+use crate::definitions::switching::Way;
 use crate::streams::under_way::Stream;
 use crate::trial::stream::{Command, BOOK, FLOWS, INJECTIONS, NUMBERS, TABLE};
 
 /// A damaged book or arbitrary bytes, before every call that reads a book.
 pub fn damaged(stream: &mut Stream) {
     for _ in 0..6 {
-        let bytes = if stream.random.once_in(4) { arbitrary(&mut stream.random) } else { spoilt_book(&mut stream.random) };
+        let way = stream.random.below(11);
+        let bytes = if stream.random.once_in(4) { arbitrary(&mut stream.random) } else { spoilt_book(&mut stream.random, way) };
         stream.add(Command::Book(bytes));
         let branch = stream.random.below(300);
         match stream.random.below(3) {
             0 => stream.add(Command::Screen { flow: FLOWS, table: TABLE }),
-            1 => stream.add(Command::Out { flow: FLOWS, table: TABLE, branch }),
+            1 => stream.add(Command::Switch { way: Way::Out, flow: FLOWS, table: TABLE, branch }),
             _ => stream.add(Command::Read { injections: INJECTIONS, branches: NUMBERS }),
         }
         if stream.dumps_left == 0 {
@@ -37,12 +39,11 @@ fn arbitrary(random: &mut Random) -> Vec<u8> {
     bytes
 }
 
-/// A book with one thing wrong: its length, its header, a field out of range, a fill bit, the sum.
-fn spoilt_book(random: &mut Random) -> Vec<u8> {
+/// A book with one thing wrong, one of eleven: its length, its header, a field out of range, a fill bit, the sum.
+pub fn spoilt_book(random: &mut Random, way: usize) -> Vec<u8> {
     let (buses, count) = counts(random);
     let mut book = strained(random, buses, count);
     let (bus, count) = (random.below(buses), book.branches.len());
-    let way = random.below(10);
     match way {
         0 => book.injections[bus] = *random.pick(&[1_000_001, -1_000_001, 1_048_575]),
         1 => book.injections[bus] += random.between(-3, 3),
@@ -57,6 +58,7 @@ fn spoilt_book(random: &mut Random) -> Vec<u8> {
         7 => flip(random, &mut bytes, 27, 32),
         8 => minus_zero(&book, &mut bytes),
         9 => *bytes.last_mut().expect("never empty") |= 1,
+        10 => bytes[0] = *random.pick(&[0, 129, 255]),
         _ => {}
     }
     bytes
@@ -158,7 +160,7 @@ pub fn registers(stream: &mut Stream) {
 
 /// An end that is no command: another byte, a number too large, or an end inside a command.
 pub fn bad_command(stream: &mut Stream) {
-    let bad: &[u8] = match stream.random.below(12) {
+    let bad: &[u8] = match stream.random.below(15) {
         0 => b"x",
         1 => b"F\x01\x00\x00\x00\x00\x00",
         2 => b"T\x34\x00\x00",
@@ -170,6 +172,9 @@ pub fn bad_command(stream: &mut Stream) {
         8 => b"B\x08\x35",
         9 => b"M\x00\x00\x00\x00\x81\x00",
         10 => b"W\x00\x01\x00\x00\x00\x01\x00\x01\x00\x01\x08\x35",
+        11 => b"K\x01\x01\x00\x00\x00\x00",
+        12 => b"K\x01\x00\x34\x01\x00\x00",
+        13 => b"K\x01\x00\x34\x00\x00",
         _ => b"B\x00\x05\x01\x02",
     };
     stream.bytes.extend(bad);

@@ -1,9 +1,10 @@
 //! Random trial streams with a seed: a few episodes each.
 
-use crate::books::random_books::{counts, served_with_flow, strained};
+use crate::books::random_books::{counts, strained};
 use crate::definitions::record;
+use crate::definitions::switching::Way;
 use crate::streams::under_way::Stream;
-use crate::streams::{damage, make_tables};
+use crate::streams::{damage, make_returns, make_tables};
 use crate::trial::stream::{Command, FLOWS, TABLE};
 
 /// The random stream of a seed.
@@ -14,16 +15,19 @@ pub fn stream(seed: u64) -> Vec<u8> {
         if stream.random.once_in(3) {
             stream.add(Command::Spoil);
         }
-        match stream.random.below(12) {
-            0 | 1 => run(&mut stream),
-            2 | 3 => run_with_spoilt_table(&mut stream),
-            4 | 5 => make_tables::lent_flow(&mut stream),
-            6 => spoilt_flow(&mut stream),
-            7 => overloaded(&mut stream),
-            8 => damage::damaged(&mut stream),
-            9 => short_room(&mut stream),
-            10 => damage::tables_to_book(&mut stream),
-            _ => damage::registers(&mut stream),
+        match stream.random.below(19) {
+            0 => run(&mut stream),
+            1 | 2 => run_with_spoilt_table(&mut stream),
+            3 | 4 => make_tables::lent_flow(&mut stream),
+            5 => spoilt_flow(&mut stream),
+            6 => overloaded(&mut stream),
+            7 => damage::damaged(&mut stream),
+            8 => short_room(&mut stream),
+            9 => damage::tables_to_book(&mut stream),
+            10 => damage::registers(&mut stream),
+            11..=15 => make_returns::mixed(&mut stream),
+            16 => make_returns::from_untrue(&mut stream),
+            _ => make_returns::refused(&mut stream),
         }
         if stream.dumps_left == 0 {
             break;
@@ -35,17 +39,9 @@ pub fn stream(seed: u64) -> Vec<u8> {
     stream.bytes
 }
 
-/// A good book in the book space; its counts.
-fn good_book(stream: &mut Stream) -> usize {
-    let (buses, count) = counts(&mut stream.random);
-    let (book, _) = served_with_flow(&mut stream.random, buses, count);
-    stream.book(&book);
-    book.branches.len()
-}
-
 /// A screen and a run of outages.
 fn run(stream: &mut Stream) {
-    let count = good_book(stream);
+    let count = stream.good_book();
     stream.screen(count);
     for _ in 0..1 + stream.random.below(5) {
         let any = stream.random.below(count + 2);
@@ -59,7 +55,7 @@ fn run(stream: &mut Stream) {
 
 /// A screen, then outages with the table spoilt between.
 fn run_with_spoilt_table(stream: &mut Stream) {
-    let count = good_book(stream);
+    let count = stream.good_book();
     stream.screen(count);
     for _ in 0..1 + stream.random.below(4) {
         let Some(branch) = stream.carrying() else { return };
@@ -73,7 +69,7 @@ fn run_with_spoilt_table(stream: &mut Stream) {
 
 /// A screen, one flow number changed, outages that are refused.
 fn spoilt_flow(stream: &mut Stream) {
-    let count = good_book(stream);
+    let count = stream.good_book();
     stream.screen(count);
     if count > 0 {
         let branch = stream.random.below(count);
@@ -105,24 +101,18 @@ fn overloaded(stream: &mut Stream) {
 
 /// Lent space too short by little or much, for every call that is lent some.
 fn short_room(stream: &mut Stream) {
-    let count = good_book(stream);
+    let count = stream.good_book();
     let buses = stream.spaces.book[0] as usize;
-    let less = |stream: &mut Stream, room: usize| {
-        if stream.random.once_in(2) {
-            room.saturating_sub(1)
-        } else {
-            stream.random.below(room + 1)
-        }
-    };
-    let flow = less(stream, count);
+    let flow = stream.less(count);
     stream.add(Command::Screen { flow, table: TABLE });
-    let table = less(stream, record::SIZE * count);
+    let table = stream.less(record::SIZE * count);
     stream.add(Command::Screen { flow: count, table });
     let branch = stream.random.below(count + 1);
-    stream.add(Command::Out { flow, table: TABLE, branch });
-    stream.add(Command::Out { flow: FLOWS, table, branch });
-    let injections = less(stream, buses);
+    let out = |flow, table| Command::Switch { way: Way::Out, flow, table, branch };
+    stream.add(out(flow, TABLE));
+    stream.add(out(FLOWS, table));
+    let injections = stream.less(buses);
     stream.add(Command::Read { injections, branches: 1024 });
-    let branches = less(stream, 4 * count);
+    let branches = stream.less(4 * count);
     stream.add(Command::Read { injections: 128, branches });
 }

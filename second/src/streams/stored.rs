@@ -1,6 +1,6 @@
 //! The stored stream: every refusal number 1 to 16, accepted screens, runs of outages, untrue tables, lent space too
-//! short, document 001's systems and the largest book, in one fixed order. After every refused call all spaces that the
-//! call doesn't print itself are dumped.
+//! short, document 001's systems and the largest book, in one fixed order; then what later requests brought, so that all
+//! before it keeps its bytes. After every refused call all spaces that the call doesn't print itself are dumped.
 
 use crate::books::plain::plain;
 use crate::books::shelf::{largest, second_book, too_long, triangle};
@@ -8,13 +8,16 @@ use crate::books::sources;
 use crate::definitions::book::{self, pack, Book};
 use crate::definitions::network::Verdict;
 use crate::definitions::record;
+use crate::definitions::switching::Way;
+use crate::streams::stored_returns;
 use crate::streams::under_way::Stream;
 use crate::trial::stream::{Command, BOOK, FLOWS, INJECTIONS, NUMBERS, TABLE};
 
-const WHOLE: Command = Command::Screen { flow: FLOWS, table: TABLE };
+/// A screen that is lent all flow and table space, and an outage likewise.
+pub const WHOLE: Command = Command::Screen { flow: FLOWS, table: TABLE };
 
-fn out(branch: usize) -> Command {
-    Command::Out { flow: FLOWS, table: TABLE, branch }
+pub fn out(branch: usize) -> Command {
+    Command::Switch { way: Way::Out, flow: FLOWS, table: TABLE, branch }
 }
 
 pub fn stream() -> Vec<u8> {
@@ -32,22 +35,25 @@ pub fn stream() -> Vec<u8> {
     stream.add(WHOLE);
     stream.add(out(130));
     stream.add(out(7));
+    stored_returns::add(&mut stream);
+    // A bad command stops a stream, so it stays the last.
     stream.bytes.extend(b"F\x01\x00");
     stream.bytes
 }
 
 /// Marked examples (a) to (k), with refusals 8 to 12 of the outage call.
 fn marked(stream: &mut Stream) {
+    let lent_out = |flow, table, branch| Command::Switch { way: Way::Out, flow, table, branch };
     stream.book(&triangle(30));
     stream.add(Command::Screen { flow: 2, table: TABLE });
     stream.add(Command::Screen { flow: FLOWS, table: 155 });
     stream.add(Command::Screen { flow: 3, table: 156 });
     stream.add(out(3));
-    stream.add(Command::Out { flow: 3, table: 156, branch: 0 });
+    stream.add(lent_out(3, 156, 0));
     stream.add(out(1));
     stream.add(out(0));
-    stream.add(Command::Out { flow: 2, table: 156, branch: 1 });
-    stream.add(Command::Out { flow: 3, table: 155, branch: 1 });
+    stream.add(lent_out(2, 156, 1));
+    stream.add(lent_out(3, 155, 1));
     for (branch, kw) in [(0, 0), (1, 30), (2, -9)] {
         stream.add(Command::Flow(branch, kw));
     }
@@ -62,18 +68,28 @@ fn marked(stream: &mut Stream) {
     stream.add(WHOLE);
     stream.book(&plain(&[0], &[]));
     stream.add(Command::Screen { flow: 0, table: 0 });
-    stream.add(Command::Out { flow: 0, table: 0, branch: 0 });
+    stream.add(lent_out(0, 0, 0));
 }
 
 /// Books refused with 1 to 7, before each call that reads a book.
 fn damaged(stream: &mut Stream) {
+    for bytes in damaged_books() {
+        stream.add(Command::Book(bytes));
+        stream.add(WHOLE);
+        stream.add(out(0));
+        stream.add(Command::Read { injections: INJECTIONS, branches: NUMBERS });
+    }
+}
+
+/// Books with one thing wrong each, in the order of the refusals 1 to 7.
+pub fn damaged_books() -> Vec<Vec<u8>> {
     let good = pack(&triangle(30));
     let with = |place: usize| {
         let mut bytes = good.clone();
         bytes[place / 8] |= 1 << (7 - place % 8);
         bytes
     };
-    let books = [
+    vec![
         Vec::new(),
         good[..3].to_vec(),
         good[..24].to_vec(),
@@ -97,13 +113,7 @@ fn damaged(stream: &mut Stream) {
             bytes
         },
         pack(&plain(&[5, -4], &[(0, 1, 1)])),
-    ];
-    for bytes in books {
-        stream.add(Command::Book(bytes));
-        stream.add(WHOLE);
-        stream.add(out(0));
-        stream.add(Command::Read { injections: INJECTIONS, branches: NUMBERS });
-    }
+    ]
 }
 
 /// Reading and writing, with the writer's refusals in its order.
@@ -151,19 +161,32 @@ fn registers(stream: &mut Stream) {
     stream.add(meters(&[(0, 7_874); 128], 128, 127));
 }
 
+/// Four buses and six branches, and a flow that fits them.
+pub fn four() -> (Book, [i32; 6]) {
+    let branches = [(0, 1, 40), (0, 2, 40), (1, 2, 30), (1, 3, 30), (2, 3, 30), (0, 3, 9)];
+    (plain(&[40, -10, -10, -20], &branches), [20, 20, 0, 10, 10, 0])
+}
+
+/// Puts a book and a flow in place.
+pub fn lend(stream: &mut Stream, book: &Book, flow: &[i32]) {
+    stream.book(book);
+    flow.iter().enumerate().for_each(|(branch, &kw)| stream.add(Command::Flow(branch, kw)));
+}
+
+/// Puts a record in place, byte by byte.
+pub fn put_record(stream: &mut Stream, branch: usize, bytes: &[u8]) {
+    bytes.iter().enumerate().for_each(|(place, &byte)| stream.add(Command::Table(record::SIZE * branch + place, byte)));
+}
+
 /// Outages from tables that are not true: an empty reroute, the branch itself, bits beyond the count, wrong verdicts.
 fn untrue(stream: &mut Stream) {
-    let four = plain(&[40, -10, -10, -20], &[(0, 1, 40), (0, 2, 40), (1, 2, 30), (1, 3, 30), (2, 3, 30), (0, 3, 9)]);
-    let lend = |stream: &mut Stream, book: &Book, flow: &[i32]| {
-        stream.book(book);
-        flow.iter().enumerate().for_each(|(branch, &kw)| stream.add(Command::Flow(branch, kw)));
-    };
-    lend(stream, &four, &[20, 20, 0, 10, 10, 0]);
+    let (book, flow) = four();
+    lend(stream, &book, &flow);
     for branch in 0..6 {
         let mut bytes = record::bytes(Verdict::Carries, &[]);
         bytes[20] = [0, 64, 0, 0b1000, 0, 0][branch];
         bytes[51] = 1;
-        bytes.iter().enumerate().for_each(|(place, &byte)| stream.add(Command::Table(record::SIZE * branch + place, byte)));
+        put_record(stream, branch, &bytes);
     }
     stream.add(out(2));
     stream.add(out(1));
@@ -185,8 +208,7 @@ fn systems(stream: &mut Stream) {
     stream.book(&sources::seven_bus());
     for (branch, kw) in sources::seven_bus_flow().into_iter().enumerate() {
         stream.add(Command::Flow(branch, kw as i32));
-        let bytes = record::bytes(Verdict::Carries, &sources::seven_reroute(branch));
-        bytes.iter().enumerate().for_each(|(place, &byte)| stream.add(Command::Table(record::SIZE * branch + place, byte)));
+        put_record(stream, branch, &record::bytes(Verdict::Carries, &sources::seven_reroute(branch)));
     }
     stream.add(out(sources::SEVEN_2_1));
     stream.book(&sources::ten_bus(&sources::TEN_SPLIT));

@@ -1,10 +1,12 @@
 //! A stream under way: commands are added one by one, with a `D` after every call that may be accepted with a choice.
 
 use crate::books::random::Random;
-use crate::definitions::book::{self, pack, Book};
+use crate::books::random_books::{counts, served_with_flow};
+use crate::definitions::book::{self, pack, Book, LARGEST};
 use crate::definitions::cuts::Cutter;
 use crate::definitions::network::{Network, Verdict};
 use crate::definitions::record;
+use crate::definitions::switching::Way;
 use crate::trial::reference;
 use crate::trial::spaces::Spaces;
 use crate::trial::stream::{self, Command, FLOWS, TABLE};
@@ -16,10 +18,13 @@ pub struct Stream {
     pub random: Random,
     /// Dumps are long, so a stream has only so many.
     pub dumps_left: usize,
-    /// A refused `S` or `O` is followed by a dump once in so many times.
+    /// A refused `S`, `O` or `K` is followed by a dump once in so many times.
     pub dump_refused: usize,
     /// Every refused call is followed by a dump, so that what it left is seen.
     pub dump_each_refused: bool,
+    /// With another program's flows a call may have been accepted that is refused here, or the other way about, so that its
+    /// book may differ from ours until the next one is put in place.
+    unsure: bool,
 }
 
 impl Stream {
@@ -28,20 +33,27 @@ impl Stream {
             bytes: Vec::new(),
             spaces: Spaces::default(),
             random: Random(seed),
-            dumps_left: 7,
+            dumps_left: 9,
             dump_refused: 4,
             dump_each_refused: false,
+            unsure: false,
         }
     }
 
-    /// Adds a command; an `S` or `O` that may be accepted gets its `D`, a refused call sometimes or always.
+    /// Adds a command; an `S`, `O` or `K` that may be accepted gets its `D`, a refused call sometimes or always.
     pub fn add(&mut self, command: Command) {
         self.bytes.extend(stream::bytes(&command));
         let lines = reference::step(&mut self.spaces, &command);
+        self.unsure = match command {
+            Command::Book(_) => false,
+            Command::Flow(_, kw) => self.unsure || kw.unsigned_abs() as i64 <= LARGEST,
+            _ => self.unsure,
+        };
         let Some(number) = command.answer_in(&lines) else { return };
-        let with_choice = matches!(command, Command::Screen { .. } | Command::Out { .. });
+        let with_choice = matches!(command, Command::Screen { .. } | Command::Switch { .. });
         // Whether a flow fits may hang on another program's choice, so an 11 here may be accepted there.
-        let may_be_accepted = with_choice && [0, 11].contains(&number);
+        self.unsure |= number == 11 && self.may_fit();
+        let may_be_accepted = with_choice && (number == 0 || self.unsure);
         let shown = self.dump_each_refused && number != 0;
         if may_be_accepted || shown || with_choice && self.random.once_in(self.dump_refused) {
             self.bytes.push(b'D');
@@ -49,8 +61,26 @@ impl Stream {
         }
     }
 
+    pub fn add_all(&mut self, commands: impl IntoIterator<Item = Command>) {
+        commands.into_iter().for_each(|command| self.add(command));
+    }
+
+    /// Whether another program's flow may fit: not where a number above every limit was put in place.
+    fn may_fit(&self) -> bool {
+        let count = book::unpack(self.spaces.bytes()).map_or(0, |book| book.branches.len());
+        self.spaces.flow[..count].iter().all(|kw| kw.abs() <= LARGEST)
+    }
+
     pub fn book(&mut self, book: &Book) {
         self.add(Command::Book(pack(book)));
+    }
+
+    /// A good book in the book space; its number of branches.
+    pub fn good_book(&mut self) -> usize {
+        let (buses, count) = counts(&mut self.random);
+        let (book, _) = served_with_flow(&mut self.random, buses, count);
+        self.book(&book);
+        book.branches.len()
     }
 
     /// Room for a flow and a table of this many branches: mostly all there is, at times just enough.
@@ -62,14 +92,38 @@ impl Stream {
         }
     }
 
+    /// Room too short by one, or by any number.
+    pub fn less(&mut self, room: usize) -> usize {
+        if self.random.once_in(2) {
+            room.saturating_sub(1)
+        } else {
+            self.random.below(room + 1)
+        }
+    }
+
     pub fn screen(&mut self, count: usize) {
         let (flow, table) = self.room(count);
         self.add(Command::Screen { flow, table });
     }
 
-    pub fn out(&mut self, count: usize, branch: usize) {
+    pub fn switch(&mut self, way: Way, count: usize, branch: usize) {
         let (flow, table) = self.room(count);
-        self.add(Command::Out { flow, table, branch });
+        self.add(Command::Switch { way, flow, table, branch });
+    }
+
+    pub fn out(&mut self, count: usize, branch: usize) {
+        self.switch(Way::Out, count, branch);
+    }
+
+    pub fn back(&mut self, count: usize, branch: usize) {
+        self.switch(Way::Back, count, branch);
+    }
+
+    /// A branch of the book as it stands that is in service, or one that is out of it.
+    pub fn standing(&mut self, served: bool) -> Option<usize> {
+        let book = book::unpack(self.spaces.bytes()).ok()?;
+        let found: Vec<usize> = (0..book.branches.len()).filter(|&k| book.branches[k].served == served).collect();
+        (!found.is_empty()).then(|| *self.random.pick(&found))
     }
 
     /// A branch that carries in the book as it stands, if a few tries find one; one with a flow is preferred.

@@ -1,15 +1,17 @@
-//! What document 01 fixes of a trial's output: everything but `?` where a flow number or a table byte is left open.
+//! What the papers fix of a trial's output: everything but `?` where a flow number or a table byte is left open.
 //!
 //! Open after an accepted screen or outage: the flow of every branch in service, and the reroute of every carrying
 //! one. After an outage from a table not known to be true also every byte of a record whose place on the shortlist
-//! may hang on the flow. Where an answer itself hangs on an open flow, the rest is left out.
+//! may hang on the flow. A return opens no flow, and of a record only the reroute of one that it writes anew and that
+//! carries. Where an answer itself hangs on an open flow, the rest is left out.
 
 use crate::definitions::answer::Answer;
+use crate::definitions::book;
 use crate::definitions::cuts;
 use crate::definitions::network::{Line, Network, Verdict};
-use crate::definitions::outage;
 use crate::definitions::record::{self, SIZE};
 use crate::definitions::screen;
+use crate::definitions::switching::{self, Lent, Way};
 use crate::trial::spaces::{hex, Spaces};
 use crate::trial::stream::{commands, Command, FLOWS, TABLE};
 
@@ -47,7 +49,10 @@ impl Fixed {
     fn step(&mut self, command: &Command) -> Option<Vec<String>> {
         match command {
             Command::Screen { flow, table } => Some(vec![format!("screen {}", self.screen(*flow, *table))]),
-            Command::Out { flow, table, branch } => Some(vec![format!("out {}", self.out(*flow, *table, *branch)?)]),
+            Command::Switch { way, flow, table, branch } => {
+                let answer = self.switch(*way, *flow, *table, *branch)?;
+                Some(vec![format!("{} {answer}", command.call()?)])
+            }
             Command::Dump => Some(self.dump()),
             other => Some(self.plain(other)),
         }
@@ -103,52 +108,80 @@ impl Fixed {
         }
     }
 
-    /// A number outside its limit makes a flow unfit, whatever the open ones are.
+    /// A number outside its limit makes a flow unfit, whatever the open ones are; and no flow fits a book with an excess.
     fn surely_unfit(&self, network: &Network) -> bool {
         let wrong = |(k, line): (usize, &Line)| {
             let most = if line.served { line.limit } else { 0 };
             !self.open_flow[k] && self.spaces.flow[k].abs() > most
         };
-        network.lines.iter().enumerate().any(wrong)
+        network.lines.iter().enumerate().any(wrong) || cuts::base_excess(network).amount > 0
     }
 
-    fn out(&mut self, flow: usize, table: usize, branch: usize) -> Option<Answer> {
-        let book = match screen::opened(self.spaces.bytes(), flow, table) {
-            Ok(book) => book,
+    /// The network lent to a switching call, or its refusal with 1 to 11 or 17; none where 11 hangs on an open flow.
+    fn fitting(&self, way: Way, lent: &Lent, branch: usize) -> Option<Result<Network, Answer>> {
+        let network = match switching::switchable(way, lent, branch) {
+            Ok(network) => network,
+            Err(answer) => return Some(Err(answer)),
+        };
+        let open = (0..network.lines.len()).any(|k| self.open_flow[k]);
+        if !open {
+            return Some(switching::fitting(way, lent, branch));
+        }
+        if self.fits {
+            return Some(Ok(network));
+        }
+        self.surely_unfit(&network).then(|| Err(Answer::refused(11)))
+    }
+
+    fn switch(&mut self, way: Way, flow: usize, table: usize, branch: usize) -> Option<Answer> {
+        let network = match self.fitting(way, &self.spaces.lent(flow, table), branch)? {
+            Ok(network) => network,
             Err(answer) => return Some(answer),
         };
-        let network = Network::of(&book);
-        let known = network.lines.get(branch).is_none_or(|line| !line.served);
-        let open = (0..network.lines.len()).any(|k| self.open_flow[k]);
-        if known || !open {
-            let lent = self.spaces.lent(flow, table);
-            return Some(outage::allowed(&lent, branch).err().unwrap_or_else(|| self.taken_out(&network, branch)));
+        let changed = network.with_status(branch, way.serves());
+        let excess = cuts::base_excess(&changed);
+        if way == Way::Out && excess.amount > 0 {
+            return Some(Answer::overloaded(excess));
         }
-        if !self.fits {
-            return self.surely_unfit(&network).then(|| Answer::refused(11));
+        let book = book::with_status(self.spaces.bytes(), branch, way.serves());
+        self.spaces.book[..book.len()].copy_from_slice(&book);
+        match way {
+            Way::Out => self.taken_out(&changed, branch),
+            Way::Back => self.brought_back(&changed, branch),
         }
-        let excess = cuts::base_excess(&network.without(branch));
-        Some(if excess.amount > 0 { Answer::overloaded(excess) } else { self.taken_out(&network, branch) })
+        self.fits = true;
+        Some(Answer::ACCEPTED)
     }
 
-    fn taken_out(&mut self, network: &Network, branch: usize) -> Answer {
-        let count = network.lines.len();
-        let changed = network.without(branch);
-        let book = outage::changed_book(self.spaces.bytes(), branch);
-        self.spaces.book[..book.len()].copy_from_slice(&book);
+    /// Whether a record's byte 0 is known, and is not 1.
+    fn surely_not_1(&self, branch: usize) -> bool {
+        !self.open_table[SIZE * branch] && self.spaces.table[SIZE * branch] != 1
+    }
+
+    fn taken_out(&mut self, changed: &Network, branch: usize) {
         if self.open_flow[branch] || self.spaces.flow[branch] != 0 {
-            self.open_flows(&changed);
+            self.open_flows(changed);
         }
-        for (k, verdict) in screen::verdicts(&changed).into_iter().enumerate() {
-            let listed = !changed.lines[k].served || !self.open_table[SIZE * k] && self.spaces.table[SIZE * k] != 1;
-            if listed || self.table_true {
-                self.set_record(k, verdict, count);
+        for (k, verdict) in screen::verdicts(changed).into_iter().enumerate() {
+            if !changed.lines[k].served || self.surely_not_1(k) || self.table_true {
+                self.set_record(k, verdict, changed.lines.len());
             } else {
                 self.open_table[SIZE * k..SIZE * (k + 1)].fill(true);
             }
         }
-        self.fits = true;
-        Answer::ACCEPTED
+    }
+
+    fn brought_back(&mut self, changed: &Network, branch: usize) {
+        for (k, verdict) in screen::verdicts(changed).into_iter().enumerate() {
+            if self.surely_not_1(k) {
+                self.set_record(k, verdict, changed.lines.len());
+            } else if self.open_table[SIZE * k] {
+                // Kept or written anew, by what its byte 0 was chosen to be.
+                self.open_table[SIZE * k..SIZE * (k + 1)].fill(true);
+            }
+        }
+        // No branch stands below a count of 0, so the returned record's reroute is set with none of its bytes open.
+        self.set_record(branch, Verdict::Carries, 0);
     }
 
     fn dump(&self) -> Vec<String> {

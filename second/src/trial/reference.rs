@@ -1,9 +1,12 @@
 //! A whole trial output with our own choice of flows and reroutes: what another program may print otherwise.
 
 use crate::definitions::answer::Answer;
-use crate::definitions::cuts::{self, Cutter};
+use crate::definitions::book;
+use crate::definitions::comeback;
+use crate::definitions::cuts;
 use crate::definitions::outage;
 use crate::definitions::screen;
+use crate::definitions::switching::Way;
 use crate::trial::spaces::Spaces;
 use crate::trial::stream::{commands, Command};
 
@@ -42,12 +45,13 @@ pub fn output_with(stream: &[u8], meddle: &mut dyn FnMut(Done)) -> String {
 
 /// Does one command with our own choices and answers its lines.
 pub fn step(spaces: &mut Spaces, command: &Command) -> Vec<String> {
-    match command {
-        Command::Screen { flow, table } => vec![format!("screen {}", screen_once(spaces, *flow, *table))],
-        Command::Out { flow, table, branch } => vec![format!("out {}", take_out(spaces, *flow, *table, *branch))],
-        Command::Dump => spaces.dump(),
-        other => spaces.run(other).1,
-    }
+    let answer = match command {
+        Command::Screen { flow, table } => screen_once(spaces, *flow, *table),
+        Command::Switch { way, flow, table, branch } => switch(spaces, *way, *flow, *table, *branch),
+        Command::Dump => return spaces.dump(),
+        other => return spaces.run(other).1,
+    };
+    vec![format!("{} {answer}", command.call().expect("a call"))]
 }
 
 fn screen_once(spaces: &mut Spaces, flow: usize, table: usize) -> Answer {
@@ -56,21 +60,23 @@ fn screen_once(spaces: &mut Spaces, flow: usize, table: usize) -> Answer {
         Err(answer) => return answer,
     };
     let found = cuts::fitting_flow(&network).expect("the base excess is 0");
-    let mut cutter = Cutter::new(&network);
-    let records: Vec<u8> = (0..found.len()).flat_map(|branch| screen::own_record(&mut cutter, &found, branch)).collect();
+    let records = screen::own_table(&network, &found);
     spaces.flow[..found.len()].copy_from_slice(&found);
     spaces.table[..records.len()].copy_from_slice(&records);
     Answer::ACCEPTED
 }
 
-fn take_out(spaces: &mut Spaces, flow: usize, table: usize, branch: usize) -> Answer {
+fn switch(spaces: &mut Spaces, way: Way, flow: usize, table: usize, branch: usize) -> Answer {
     let lent = spaces.lent(flow, table);
-    let network = match outage::allowed(&lent, branch) {
-        Ok(network) => network,
+    let left = match way {
+        Way::Out => outage::allowed(&lent, branch).map(|network| outage::own_result(&network, &lent, branch)),
+        Way::Back => comeback::allowed(&lent, branch).map(|network| comeback::own_result(&network, &lent, branch)),
+    };
+    let (after, records) = match left {
+        Ok(left) => left,
         Err(answer) => return answer,
     };
-    let (after, records) = outage::own_result(&network, &lent, branch);
-    let book = outage::changed_book(lent.book, branch);
+    let book = book::with_status(lent.book, branch, way.serves());
     spaces.book[..book.len()].copy_from_slice(&book);
     spaces.flow[..after.len()].copy_from_slice(&after);
     spaces.table[..records.len()].copy_from_slice(&records);

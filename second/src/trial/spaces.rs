@@ -3,8 +3,8 @@
 use crate::definitions::answer::Answer;
 use crate::definitions::book;
 use crate::definitions::meters::{self, Registers};
-use crate::definitions::outage::Lent;
 use crate::definitions::record;
+use crate::definitions::switching::Lent;
 use crate::trial::stream::{Command, BOOK, FLOWS, INJECTIONS, NUMBERS, TABLE};
 use std::fmt::Write;
 
@@ -54,7 +54,7 @@ impl Spaces {
         self.numbers.fill(7_777_777);
     }
 
-    /// Does a command whose whole effect document 01 fixes and answers its lines; not for `S`, `O` and `D`.
+    /// Does a command whose whole effect document 01 fixes and answers its lines; not for `S`, `O`, `K` and `D`.
     pub fn run(&mut self, command: &Command) -> (Option<Answer>, Vec<String>) {
         match command {
             Command::Spoil => self.spoil(),
@@ -69,7 +69,7 @@ impl Spaces {
             Command::Read { injections, branches } => return self.read(*injections, *branches),
             Command::Write { .. } => return self.write(command),
             Command::Meters { lists, lent, supply } => return self.meters(lists, *lent, *supply),
-            Command::Screen { .. } | Command::Out { .. } | Command::Dump => unreachable!("left to the caller"),
+            Command::Screen { .. } | Command::Switch { .. } | Command::Dump => unreachable!("left to the caller"),
         }
         (None, Vec::new())
     }

@@ -1,5 +1,7 @@
 //! The commands of a trial stream: read from bytes and turned into bytes.
 
+use crate::definitions::switching::Way;
+
 pub const BOOK: usize = 2_100;
 pub const FLOWS: usize = 256;
 pub const TABLE: usize = 13_312;
@@ -15,7 +17,7 @@ pub enum Command {
     Injection(usize, i32),
     Number(usize, u32),
     Screen { flow: usize, table: usize },
-    Out { flow: usize, table: usize, branch: usize },
+    Switch { way: Way, flow: usize, table: usize, branch: usize },
     Read { injections: usize, branches: usize },
     Write { buses: usize, count: usize, factor: usize, injections: usize, branches: usize, room: usize },
     Meters { lists: [Vec<u32>; 4], lent: usize, supply: usize },
@@ -27,7 +29,8 @@ impl Command {
     pub fn call(&self) -> Option<&'static str> {
         match self {
             Command::Screen { .. } => Some("screen"),
-            Command::Out { .. } => Some("out"),
+            Command::Switch { way: Way::Out, .. } => Some("out"),
+            Command::Switch { way: Way::Back, .. } => Some("back"),
             Command::Read { .. } => Some("read"),
             Command::Write { .. } => Some("write"),
             Command::Meters { .. } => Some("meters"),
@@ -103,7 +106,8 @@ impl Commands<'_> {
             b'I' => Command::Injection(self.two(INJECTIONS - 1)?, self.number(4)? as i32),
             b'N' => Command::Number(self.two(NUMBERS - 1)?, self.number(4)?),
             b'S' => Command::Screen { flow: self.two(FLOWS)?, table: self.two(TABLE)? },
-            b'O' => Command::Out { flow: self.two(FLOWS)?, table: self.two(TABLE)?, branch: self.two(65_535)? },
+            b'O' => self.switch(Way::Out)?,
+            b'K' => self.switch(Way::Back)?,
             b'R' => Command::Read { injections: self.two(INJECTIONS)?, branches: self.two(NUMBERS)? },
             b'W' => Command::Write {
                 buses: self.two(65_535)?,
@@ -117,6 +121,10 @@ impl Commands<'_> {
             b'D' => Command::Dump,
             _ => return Err(Bad),
         })
+    }
+
+    fn switch(&mut self, way: Way) -> Result<Command, Bad> {
+        Ok(Command::Switch { way, flow: self.two(FLOWS)?, table: self.two(TABLE)?, branch: self.two(65_535)? })
     }
 
     fn meters(&mut self) -> Result<Command, Bad> {
@@ -147,7 +155,10 @@ pub fn bytes(command: &Command) -> Vec<u8> {
         Command::Injection(k, v) => [&b"I"[..], &two(k), &v.to_be_bytes()].concat(),
         Command::Number(k, v) => [&b"N"[..], &two(k), &v.to_be_bytes()].concat(),
         Command::Screen { flow, table } => [&b"S"[..], &two(flow), &two(table)].concat(),
-        Command::Out { flow, table, branch } => [&b"O"[..], &two(flow), &two(table), &two(branch)].concat(),
+        Command::Switch { way, flow, table, branch } => {
+            let letter = if *way == Way::Out { b"O" } else { b"K" };
+            [&letter[..], &two(flow), &two(table), &two(branch)].concat()
+        }
         Command::Read { injections, branches } => [&b"R"[..], &two(injections), &two(branches)].concat(),
         Command::Write { buses, count, factor, injections, branches, room } => {
             let numbers = [buses, count, factor, injections, branches, room].map(two);

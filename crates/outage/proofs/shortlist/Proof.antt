@@ -3,18 +3,20 @@ use borrow.Author.Needs.{needs}
 use native.Mathlib.Omega.{arith}
 use mathlib.Core.Logic.{inl, inr}
 use Prim.Native.Nat.{_-_}
-use Rattle.outage.proofs.Shortlisting.{Noting, noting-none, noting-set, noting-skip, noting-all}
+use Rattle.state.proofs.Noting.{Noting, noting-none, noting-set, noting-skip, noting-all}
+use Rattle.outage.specs.Inside.{listedAt}
+use Rattle.outage.proofs.Shortlisting.{tested}
 use Rattle.outage.proofs.shortlist.Statement.{statement}
 use Rattle.outage.proofs.shortlist.Tie as tie
 
 abbrev Inv-loop : tie.InvT-loop
-Inv-loop table branches touched served row₀ k₀ row k = Noting branches served touched table row k
+Inv-loop table branches touched served row₀ k₀ row k = Noting branches table (listedAt served touched table) row k
 
 abbrev μ-loop : tie.MeasureT-loop
 μ-loop table branches touched served row₀ k₀ row k = branches - k
 
 loop-holds : tie.Need-loop-holds Inv-loop μ-loop
-loop-holds c = noting-none _ _ _ _ (c .before .pre .0) (c .before .pre .1)
+loop-holds c = noting-none _ _ _ (c .before .pre .0) (c .before .pre .1)
 
 stretch-requires : tie.Need-stretch-requires Inv-loop μ-loop
 stretch-requires c κs = omega (arith, c .before .loop .inv .room, c .loop-test .taken)
@@ -44,12 +46,12 @@ loop-again c =
     let s = t .stretch .ensures in
     let u = t .before .loop-test .taken in
     elim (c .if1 .came) [
-      | inl w ↦ rw (w .4, w .2 .ensures) (noting-set _ _ _ _ g u (c .before .is-listed .ensures) (s .its-bytes) (w .0 .taken))
-      | inr w ↦ rw (w .1) (noting-skip _ _ _ _ g u (c .before .is-listed .ensures) (s .its-bytes) (w .0 .left))
+      | inl w ↦ rw (w .4, w .2 .ensures) (noting-set _ _ _ g u (tested _ _ _ _ (c .before .is-listed .ensures) (s .its-bytes) (w .0 .taken)))
+      | inr w ↦ rw (w .1) (noting-skip _ _ _ g u (tested _ _ _ _ (c .before .is-listed .ensures) (s .its-bytes) (w .0 .left)))
     ]
 
 returns : tie.Need-returns Inv-loop μ-loop
-returns c = noting-all _ _ _ _ (c .before .loop .inv) (omega (arith, c .before .loop .inv .upto))
+returns c = noting-all _ _ _ (c .before .loop .inv) (omega (arith, c .before .loop .inv .upto))
 
 pub shortlist-spec : {M : Type 1} → statement M
 shortlist-spec =

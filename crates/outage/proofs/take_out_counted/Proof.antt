@@ -12,8 +12,9 @@ use Rattle.answer.specs.Answer.{bare}
 use Rattle.answer.specs.declared.Outcome.the-variants.{Accepted}
 use Rattle.answer.proofs.Refusals.{not-accepted}
 use Rattle.state.specs.Inside.{Poised}
+use Rattle.state.proofs.Surveying.{surveyable, sizes}
 use Rattle.outage.specs.Promise.{takeCheck}
-use Rattle.outage.proofs.OutageEnds.{ends-refused, may, plannable-here, sizes, count-here, lendable-here, ends-unfit, losable-here, ends-short, fillable-here, poised-here, ends-taken}
+use Rattle.outage.proofs.OutageEnds.{ends-refused, may, ends-unfit, losable-here, ends-short, fillable-here, poised-here, ends-taken}
 use Rattle.outage.proofs.take_out_counted.Statement.{statement}
 use Rattle.outage.proofs.take_out_counted.Tie as tie
 
@@ -21,22 +22,16 @@ use Rattle.outage.proofs.take_out_counted.Tie as tie
 abbrev start : tie.After-enum-told → tie.Start
 start c = c .before .before .before .before .before .before
 
-abbrev told : tie.After-prepare → tie.After-enum-told
+abbrev told : tie.After-survey-lent → tie.After-enum-told
 told c = c .before .before .before
 
-abbrev prepared : tie.After-load → tie.After-prepare
-prepared c = c .before .before .before .before
+abbrev surveyed : tie.After-replace → tie.After-survey-lent
+surveyed c = c .before .before .before .before .before .before .before .before
 
-abbrev rows-made : tie.After-test → tie.After-prepare
-rows-made c = prepared (c .before .before)
-
-abbrev tested : tie.After-replace → tie.After-test
-tested c = c .before .before .before .before .before .before
-
-abbrev replaced : tie.After-cut → tie.After-replace
+abbrev replaced : tie.After-kw-with → tie.After-replace
 replaced c = c .before .before .before .before .before .before .before .before .before
 
-abbrev cut-of : tie.After-fill-flow → tie.After-cut
+abbrev cut-of : tie.After-fill-flow → tie.After-kw-with
 cut-of c = c .before .before .before .before
 
 -- ---- What was lent.
@@ -56,41 +51,30 @@ lost c = start c .args .branch
 ok : (c : tie.After-enum-told) → takeCheck (bytes c) (length (lent-flow c)) (length (lent-table c)) (lost c) ≡ Accepted
 ok c = sym (c .before .before .check .ensures) ∙ c .enum-told .given .1
 
-sizes-at : (c : tie.After-prepare) → (c .prepare .result .wires .buses ≤ 128) × (c .prepare .result .wires .branches ≤ 256) × (lost (told c) < c .prepare .result .wires .branches)
-sizes-at c = let t = told c in sizes (bytes t) (lent-flow t) (lent-table t) (lost t) (ok t) _ (c .before .rows-of .ensures) _ (c .prepare .ensures)
+sizes-at : (c : tie.After-survey-lent) → (c .survey-lent .result .wires .buses ≤ 128) × (c .survey-lent .result .wires .branches ≤ 256) × (lost (told c) < c .survey-lent .result .wires .branches)
+sizes-at c = let t = told c in sizes (c .survey-lent .ensures) (may (bytes t) (lent-flow t) (lent-table t) (lost t) (ok t) .there)
 
-table-room : (c : tie.After-prepare) → 52 * c .prepare .result .wires .branches ≤ length (lent-table (told c))
+table-room : (c : tie.After-survey-lent) → 52 * c .survey-lent .result .wires .branches ≤ length (lent-table (told c))
 table-room c =
     let t = told c in
-    omega (
-      arith,
-      may (bytes t) (lent-flow t) (lent-table t) (lost t) (ok t) .passes .table-room,
-      count-here (bytes t) (lent-flow t) (lent-table t) (lost t) (ok t) _ (c .before .rows-of .ensures) _ (c .prepare .ensures),
-    )
+    omega (arith, may (bytes t) (lent-flow t) (lent-table t) (lost t) (ok t) .passes .table-room, c .survey-lent .ensures .branches-are)
 
 group-long : (c : tie.After-replace) → length (c .replace .result .group) ≡ 16
 group-long c = search needs
 
-served-long : (c : tie.After-prepare) → length (c .prepare .result .served) ≡ 256
-served-long c = search needs
-
-live-long : (c : tie.After-prepare) → length (c .prepare .result .live) ≡ 256
-live-long c = search needs
-
-fitting : (c : tie.After-replace) → tested c .test .result .fits ≡ true
-fitting c = not-false _ (c .before .before .before .before .before .if1 .left)
+fitting : (c : tie.After-replace) → surveyed c .survey-lent .result .fits ≡ true
+fitting c = not-false _ (c .before .before .before .before .before .before .before .if1 .left)
 
 -- The rows that are left, as a state of the case without the branch.
 poised : (c : tie.After-fill-flow)
-    → Poised (rows-made (tested (replaced (cut-of c))) .prepare .result .wires) (cut-of c .before .closed .result) (cut-of c .cut .result) (replaced (cut-of c) .replace .result .latent)
+    → Poised (surveyed (replaced (cut-of c)) .survey-lent .result .wires) (cut-of c .before .served-with .result) (cut-of c .kw-with .result) (replaced (cut-of c) .replace .result .latent)
 poised c =
     let u = cut-of c in
     let r = replaced u in
-    let x = tested r in
-    let m = rows-made x in
+    let m = surveyed r in
     let t = told m in
-    poised-here (bytes t) (lent-flow t) (lent-table t) (lost t) (ok t) _ (m .before .rows-of .ensures) _ (m .prepare .ensures) _ (x .test .ensures) (fitting r) _ _ (r .replace .ensures)
-    (served-long m) (live-long m) (u .before .closed .ensures) (u .cut .ensures) (u .before .before .before .before .before .before .before .enum-told2 .given .1) _ (c .fill-flow .ensures)
+    poised-here (bytes t) (lent-flow t) (lent-table t) (lost t) (ok t) _ (m .survey-lent .ensures) (fitting r) _ _ (r .replace .ensures)
+    (u .before .served-with .ensures) (u .kw-with .ensures) (u .before .before .before .before .before .before .before .enum-told2 .given .1) _ (c .fill-flow .ensures)
 
 -- ---- The needs.
 check-requires : tie.Need-check-requires
@@ -108,21 +92,10 @@ same-length c = search needs
 returns : tie.Need-returns
 returns c = ends-refused _ _ _ _ _ (c .before .before .check .ensures) (not-accepted _ (c .before .match .keys2)) (c .told .ensures)
 
-rows-of-requires : tie.Need-rows-of-requires
-rows-of-requires c κs =
-    let t = c .before in
-    may (bytes t) (lent-flow t) (lent-table t) (lost t) (ok t) .passes .book
-
-prepare-requires : tie.Need-prepare-requires
-prepare-requires c κs =
+survey-lent-requires : tie.Need-survey-lent-requires
+survey-lent-requires c κs =
     let t = c .before .before in
-    plannable-here (bytes t) (lent-flow t) (lent-table t) (lost t) (ok t) _ (c .rows-of .ensures)
-
-test-requires : tie.Need-test-requires
-test-requires c κs =
-    let m = prepared (c .before) in
-    let t = told m in
-    lendable-here (bytes t) (lent-flow t) (lent-table t) (lost t) (ok t) _ (m .before .rows-of .ensures) _ (m .prepare .ensures)
+    surveyable (may (bytes t) (lent-flow t) (lent-table t) (lost t) (ok t) .passes)
 
 refuse-requires : tie.Need-refuse-requires
 refuse-requires c κs = search needs
@@ -138,15 +111,14 @@ same-length-3 c = search needs
 
 returns-2 : tie.Need-returns-2
 returns-2 c =
-    let x = c .before .before .before in
-    let m = rows-made x in
+    let m = c .before .before .before in
     let t = told m in
-    ends-unfit (bytes t) (lent-flow t) (lent-table t) (lost t) (ok t) _ (m .before .rows-of .ensures) _ (m .prepare .ensures) _ (x .test .ensures) (not-true _ (c .before .before .if1 .taken))
+    ends-unfit (bytes t) (lent-flow t) (lent-table t) (lost t) (ok t) _ (m .survey-lent .ensures) (not-true _ (c .before .before .if1 .taken))
     (c .told2 .ensures .0 ∙ ap bare (c .before .refuse .ensures)) (c .told2 .ensures .1)
 
 stretch-requires : tie.Need-stretch-requires
 stretch-requires c κs =
-    let m = rows-made (c .before .before .before) in
+    let m = c .before .before .before .before .before in
     omega (arith, table-room m, sizes-at m)
 
 reroute-of-requires : tie.Need-reroute-of-requires
@@ -154,11 +126,10 @@ reroute-of-requires c κs = c .stretch .ensures .long
 
 replace-requires : tie.Need-replace-requires
 replace-requires c κs =
-    let e = c .before .before .before .before in
-    let x = e .before in
-    let m = rows-made x in
+    let e = c .before .before .before .before .before .before in
+    let m = e .before in
     let t = told m in
-    losable-here (bytes t) (lent-flow t) (lent-table t) (lost t) (ok t) _ (m .before .rows-of .ensures) _ (m .prepare .ensures) _ (x .test .ensures) (not-false _ (e .if1 .left))
+    losable-here (bytes t) (lent-flow t) (lent-table t) (lost t) (ok t) _ (m .survey-lent .ensures) (not-false _ (e .if1 .left))
 
 enum-known-verdict : tie.Need-enum-known-verdict
 enum-known-verdict c = search needs
@@ -178,44 +149,42 @@ same-length-6 c = search needs
 returns-3 : tie.Need-returns-3
 returns-3 c =
     let r = c .before .before .before .before .before in
-    let x = tested r in
-    let m = rows-made x in
+    let m = surveyed r in
     let t = told m in
-    ends-short (bytes t) (lent-flow t) (lent-table t) (lost t) (ok t) _ (m .before .rows-of .ensures) _ (m .prepare .ensures) _ (x .test .ensures) (fitting r) _ _ (r .replace .ensures) _
+    ends-short (bytes t) (lent-flow t) (lent-table t) (lost t) (ok t) _ (m .survey-lent .ensures) (fitting r) _ _ (r .replace .ensures) _
     (c .before .before .before .verdict .given .1) (group-long r) (c .short .ensures)
 
 enum-told-2 : tie.Need-enum-told-2
 enum-told-2 c = search needs
 
 touch-requires : tie.Need-touch-requires
-touch-requires c κs = let s = sizes-at (rows-made (tested (c .before .before .before .before .before .before))) in (s .1, s .2)
+touch-requires c κs = let s = sizes-at (surveyed (c .before .before .before .before .before .before)) in (s .1, s .2)
 
-closed-requires : tie.Need-closed-requires
-closed-requires c κs = let s = sizes-at (rows-made (tested (c .before .before .before .before .before .before .before))) in omega (arith, s .1, s .2)
+served-with-requires : tie.Need-served-with-requires
+served-with-requires c κs = let s = sizes-at (surveyed (c .before .before .before .before .before .before .before)) in omega (arith, s .1, s .2)
 
-cut-requires : tie.Need-cut-requires
-cut-requires c κs = let s = sizes-at (rows-made (tested (c .before .before .before .before .before .before .before .before))) in omega (arith, s .1, s .2)
+kw-with-requires : tie.Need-kw-with-requires
+kw-with-requires c κs = let s = sizes-at (surveyed (c .before .before .before .before .before .before .before .before)) in omega (arith, s .1, s .2)
 
 shortlist-requires : tie.Need-shortlist-requires
-shortlist-requires c κs = let m = rows-made (tested (replaced (c .before))) in (sizes-at m .1, table-room m)
+shortlist-requires c κs = let m = surveyed (replaced (c .before)) in (sizes-at m .1, table-room m)
 
 fill-flow-requires : tie.Need-fill-flow-requires
 fill-flow-requires c κs =
     let u = c .before .before .before in
     let r = replaced u in
-    let x = tested r in
-    let m = rows-made x in
+    let m = surveyed r in
     let t = told m in
-    fillable-here (bytes t) (lent-flow t) (lent-table t) (lost t) (ok t) _ (m .before .rows-of .ensures) _ (m .prepare .ensures) _ (x .test .ensures) (fitting r) _ _ (r .replace .ensures)
-    (served-long m) (live-long m) (u .cut .ensures)
+    fillable-here (bytes t) (lent-flow t) (lent-table t) (lost t) (ok t) _ (m .survey-lent .ensures) (fitting r) _ _ (r .replace .ensures)
+    (u .before .served-with .ensures) (u .kw-with .ensures)
 
 rewrite-requires : tie.Need-rewrite-requires
-rewrite-requires c κs = let f = c .before .before in (poised f, table-room (rows-made (tested (replaced (cut-of f)))))
+rewrite-requires c κs = let f = c .before .before in (poised f, table-room (surveyed (replaced (cut-of f))))
 
 set-status-requires : tie.Need-set-status-requires
 set-status-requires c κs =
     let f = c .before .before .before .before .before .before in
-    let s = sizes-at (rows-made (tested (replaced (cut-of f)))) in
+    let s = sizes-at (surveyed (replaced (cut-of f))) in
     (s .0, omega (arith, s .1, s .2), omega arith)
 
 told-requires-3 : tie.Need-told-requires-3
@@ -236,11 +205,10 @@ returns-4 c =
     let f = w .before .before .before in
     let u = cut-of f in
     let r = replaced u in
-    let x = tested r in
-    let m = rows-made x in
+    let m = surveyed r in
     let t = told m in
-    ends-taken (bytes t) (lent-flow t) (lent-table t) (lost t) (ok t) _ (m .before .rows-of .ensures) _ (m .prepare .ensures) _ (x .test .ensures) (fitting r) _ _ (r .replace .ensures)
-    (served-long m) (live-long m) (u .before .closed .ensures) (u .cut .ensures) (u .before .before .before .before .before .before .before .enum-told2 .given .1) _ (f .fill-flow .ensures) _ (u .before .before .touch .ensures)
+    ends-taken (bytes t) (lent-flow t) (lent-table t) (lost t) (ok t) _ (m .survey-lent .ensures) (fitting r) _ _ (r .replace .ensures)
+    (u .before .served-with .ensures) (u .kw-with .ensures) (u .before .before .before .before .before .before .before .enum-told2 .given .1) _ (f .fill-flow .ensures) _ (u .before .before .touch .ensures)
     (c .told3 .ensures .0) (c .told3 .ensures .1) (r .before .reroute-of .ensures ∙ ap (λ (rec : List ℕ). take 32 (drop 20 rec)) (r .before .before .stretch .ensures .its-bytes))
     (f .before .before .shortlist .ensures) (c .before .before .before .set-status .ensures) (w .rewrite .ensures)
 
@@ -253,9 +221,7 @@ take-out-counted-spec =
     told-requires
     same-length
     returns
-    rows-of-requires
-    prepare-requires
-    test-requires
+    survey-lent-requires
     refuse-requires
     told-requires-2
     same-length-2
@@ -272,8 +238,8 @@ take-out-counted-spec =
     returns-3
     enum-told-2
     touch-requires
-    closed-requires
-    cut-requires
+    served-with-requires
+    kw-with-requires
     shortlist-requires
     fill-flow-requires
     rewrite-requires

@@ -1,8 +1,9 @@
 -- `is_listed` is true exactly where byte 0 is not 1 or the reroute names a touched branch.
 use borrow.Author.Needs.{needs}
 use native.Mathlib.Omega.{arith}
-use mathlib.Core.Path.{_≡_}
+use mathlib.Core.Path.{_≡_, sym, _∙_}
 use Prim.Native.Nat.{_+_, _-_}
+use borrow.Author.Tests.{eqb-true, eqb-false, not-true, not-false}
 use lib.ListN.{length}
 use mir.Syntax.{w8}
 use mir.Val.{Fits}
@@ -17,14 +18,14 @@ Inv-loop rec touched i₀ i = Passed rec touched i × (length rec ≡ 52)
 abbrev μ-loop : tie.MeasureT-loop
 μ-loop rec touched i₀ i = 32 - i
 
-shared-slice-read-if1 : tie.Need-shared-slice-read-if1 Inv-loop μ-loop
-shared-slice-read-if1 c = omega arith
+carries-requires : tie.Need-carries-requires Inv-loop μ-loop
+carries-requires c κs = search needs
 
 returns : tie.Need-returns Inv-loop μ-loop
-returns c = not-one _ _ (c .if1 .taken)
+returns c = not-one _ _ (eqb-false _ 1 (sym (c .before .carries .ensures) ∙ not-true _ (c .if1 .taken)))
 
 loop-holds : tie.Need-loop-holds Inv-loop μ-loop
-loop-holds c = (passed-none _ _ (c .if1 .left), c .before .before .pre)
+loop-holds c = (passed-none _ _ (eqb-true _ 1 (sym (c .before .carries .ensures) ∙ not-false _ (c .if1 .left))), c .before .before .before .pre)
 
 add-if2 : tie.Need-add-if2 Inv-loop μ-loop
 add-if2 c = omega arith
@@ -39,7 +40,7 @@ returns-2 : tie.Need-returns-2 Inv-loop μ-loop
 returns-2 c =
     let at = c .before .before in
     let i = at .before .loop .i in
-    let y : Fits w8 (nth (c .before .before .before .before .before .before .args .t2) i) = search needs in
+    let y : Fits w8 (nth (c .before .before .before .before .before .before .before .args .t2) i) = search needs in
     met _ _ (at .before .loop .inv .0) (omega arith) (omega (arith, c .before .shared-slice-known2 .given (20 + i))) (omega (arith, y)) (c .if2 .taken)
 
 add-i : tie.Need-add-i Inv-loop μ-loop
@@ -62,7 +63,7 @@ is-listed-spec =
     (tie.spec
     Inv-loop
     μ-loop
-    shared-slice-read-if1
+    carries-requires
     returns
     loop-holds
     add-if2

@@ -1,0 +1,4 @@
+pub mod Checking
+pub mod ToBeWritten
+pub mod StateBack
+pub mod ReturnEnds

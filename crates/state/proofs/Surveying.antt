@@ -1,0 +1,78 @@
+-- A lent book and flow, surveyed: the rows are those of its case, and the test of the flow is whether it fits.
+use mathlib.Core.Path.{_≡_, _∙_}
+use mathlib.Core.List.{List}
+use Prim.Native.Nat.{ℕ, _≤_, _<_}
+use native.Mathlib.Omega.{arith}
+use lib.IntN.{ℤ}
+use lib.ListN.{length}
+use Rattle.rows.specs.Row.{nth}
+use Rattle.quantity.specs.Signed.{posPart, negPart}
+use Rattle.layout.specs.Book.{WellFormed}
+use Rattle.layout.specs.Layout.{branchesIn, bookOf}
+use Rattle.layout.proofs.WellFormed.{accepted-well, buses-of}
+use Rattle.book.specs.Inside.{RowsRead}
+use Rattle.book.specs.declared.CaseRows.{CaseRows}
+use Rattle.fit.specs.Inside.{Lendable, Fitted}
+use Rattle.fit.specs.declared.Lending.{Lending}
+use Rattle.quantity.specs.Inside.{kwAt}
+use Rattle.state.specs.Case.{caseOf, caseIn}
+use Rattle.state.specs.Inside.{Held, Plannable, Planned, Surveyable, Surveyed}
+use Rattle.state.specs.declared.Plan.{Plan}
+use Rattle.state.specs.declared.Survey.{Survey}
+use Rattle.state.proofs.Checked.{Passed}
+use Rattle.state.proofs.Opening.{plannable, held, gain-is, load-is, small-injections}
+use Rattle.state.proofs.Lending as lending
+use Rattle.state.proofs.Status.{branches-of, level-of}
+
+-- What passes the checks of every call can be surveyed.
+pub surveyable : {bs : List ℕ} {flows bytes : ℕ} → Passed bs flows bytes → Surveyable bs flows
+surveyable h = record { book = h .book; flow-room = h .flow-room }
+
+-- A branch of the book surveyed.
+module _ {bs : List ℕ} {flow : List ℤ} {q : Survey} (p : Surveyed bs flow q) {b : ℕ} (there : b < branchesIn bs) where
+  pub branch-there : b < caseIn bs .branches
+  branch-there = omega (arith, p .branches-are, p .held .branches-are)
+
+  pub sizes : (q .wires .buses ≤ 128) × (q .wires .branches ≤ 256) × (b < q .wires .branches)
+  sizes = (p .held .linked .wired .few, p .held .linked .wired .size, omega (arith, p .branches-are))
+
+module _ (bs : List ℕ) (flow : List ℤ) (ok : Surveyable bs (length flow)) (r : CaseRows) (h : RowsRead (bookOf bs) r) where
+  well : WellFormed (bookOf bs)
+  well = accepted-well bs (ok .book)
+
+  pub plannable-here : Plannable r
+  plannable-here = plannable (bookOf bs) well r h
+
+  limits-here : (k : ℕ) → kwAt (r .limit) k ≡ caseIn bs .loss-limit k
+  unfolding caseOf
+  limits-here = h .limit-is
+
+  module _ (q : Plan) (p : Planned r q) where
+    held-here : Held (caseIn bs) (q .wires) (q .served) (q .live)
+    held-here = held (bookOf bs) well r h q p
+
+    gains : nth (q .gain) ≡ (λ i. posPart (caseIn bs .injection i))
+    gains = gain-is (bookOf bs) well r h q p
+
+    loads : nth (q .load) ≡ (λ i. negPart (caseIn bs .injection i))
+    loads = load-is (bookOf bs) well r h q p
+
+    count-here : q .wires .branches ≡ branchesIn bs
+    count-here = held-here .branches-are ∙ branches-of bs
+
+    pub lendable-here : Lendable (q .wires) (q .live) (q .gain) (q .load) (length flow)
+    lendable-here =
+        lending.lendable (caseIn bs) (level-of bs) (q .wires) (q .served) (q .live) (q .gain) (q .load) held-here gains loads (length flow)
+        (omega (arith, ok .flow-room, count-here))
+        (small-injections (bookOf bs) well (q .gain) (q .load) gains loads)
+
+    pub surveyed : (x : Lending) → Fitted (q .wires) flow (q .live) (q .gain) (q .load) x
+        → Surveyed bs flow (record { wires = q .wires; served = q .served; limit = r .limit; live = q .live; fits = x .fits; latent = x .latent })
+    surveyed x d = record {
+      held = held-here;
+      buses-are = p .wiring .same-buses ∙ h .buses-are ∙ buses-of bs;
+      branches-are = count-here;
+      limit-is = limits-here;
+      fitting = lending.fit-state (caseIn bs) (level-of bs) (q .wires) (q .served) (q .live) (q .gain) (q .load) held-here gains loads flow x d;
+      unfit = lending.fit-not (caseIn bs) (level-of bs) (q .wires) (q .served) (q .live) (q .gain) (q .load) held-here gains loads flow x d;
+    }

@@ -1,0 +1,21 @@
+-- The check of a call that switches one branch.
+use mathlib.Core.List.{List, [], _∷_}
+use Prim.Native.Nat.{ℕ}
+use lib.Dec.{eqb, leb}
+use Rattle.answer.specs.Answer.{refuseIf, andThen}
+use Rattle.answer.specs.declared.Outcome.{Outcome}
+use Rattle.answer.specs.declared.Outcome.the-variants.{Accepted}
+use Rattle.layout.specs.Book.{branch}
+use Rattle.layout.specs.Layout.{branchesIn, bookOf}
+use Rattle.state.specs.Call.{lentCheck}
+
+-- Refusals 1 to 8 as of every call, then 9: no such branch; then n: its status is v already.
+unfoldable pub branchCheck : List ℕ → ℕ → ℕ → ℕ → ℕ → ℕ → Outcome
+branchCheck bs flows bytes b v n =
+    andThen (lentCheck bs flows bytes)
+    (refuseIf (leb (branchesIn bs) b) 9
+    (refuseIf (eqb (branch (bookOf bs) b .status) v) n
+    Accepted))
+
+abbrev pub branchNumbers : List ℕ
+branchNumbers = 1 ∷ 2 ∷ 3 ∷ 4 ∷ 5 ∷ 6 ∷ 7 ∷ 8 ∷ 9 ∷ []

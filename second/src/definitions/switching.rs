@@ -1,0 +1,104 @@
+//! What taking a branch out and bringing one back share: what they are lent, their refusals up to the flow, and a table
+//! in which some records are written anew and all others keep their bytes.
+
+use crate::definitions::answer::Answer;
+use crate::definitions::cuts::Cutter;
+use crate::definitions::network::Network;
+use crate::definitions::record::{self, SIZE};
+use crate::definitions::screen;
+
+/// The two ways to switch a branch.
+#[derive(Clone, Copy, Debug, PartialEq, Eq)]
+pub enum Way {
+    Out,
+    Back,
+}
+
+impl Way {
+    /// Whether the branch is in service after the call.
+    pub fn serves(self) -> bool {
+        self == Way::Back
+    }
+
+    /// The refusal where the branch already stands as the call would leave it.
+    fn already(self) -> u8 {
+        match self {
+            Way::Out => 10,
+            Way::Back => 17,
+        }
+    }
+}
+
+/// What a call is lent: the book's bytes, the flow numbers and the table bytes, as long as they were lent.
+pub struct Lent<'a> {
+    pub book: &'a [u8],
+    pub flow: &'a [i64],
+    pub table: &'a [u8],
+}
+
+/// The network of the book lent, where its branch can be switched; else the first of 1 to 8, 9, and 10 or 17.
+pub fn switchable(way: Way, lent: &Lent, branch: usize) -> Result<Network, Answer> {
+    let book = screen::opened(lent.book, lent.flow.len(), lent.table.len())?;
+    let named = book.branches.get(branch).ok_or(Answer::refused(9))?;
+    if named.served == way.serves() {
+        return Err(Answer::refused(way.already()));
+    }
+    Ok(Network::of(&book))
+}
+
+/// The same where, besides, the flow lent fits the book as it is lent; else 11 comes after those.
+pub fn fitting(way: Way, lent: &Lent, branch: usize) -> Result<Network, Answer> {
+    let network = switchable(way, lent, branch)?;
+    if network.fits(&lent.flow[..network.lines.len()]) {
+        Ok(network)
+    } else {
+        Err(Answer::refused(11))
+    }
+}
+
+/// What was judged of what an accepted call left.
+#[derive(Default, Debug)]
+pub struct Judged {
+    pub faults: Vec<String>,
+    /// For each branch whether its record is one to be written anew.
+    pub anew: Vec<bool>,
+    pub undecided: usize,
+    /// Of an outage: no fitting flow kept to the recorded reroute, so that any branch could be used.
+    pub fell_back: bool,
+}
+
+/// Lent space beyond the branch count is never written.
+pub fn judge_beyond(lent: &Lent, count: usize, flow: &[i64], table: &[u8], judged: &mut Judged) {
+    if lent.flow[count..] != flow[count..lent.flow.len()] {
+        judged.faults.push("the flow beyond the branch count was written".into());
+    }
+    if lent.table[SIZE * count..] != table[SIZE * count..lent.table.len()] {
+        judged.faults.push("the table beyond the branch count was written".into());
+    }
+}
+
+/// The records to be written anew are true of the changed network and the flow left, all others keep their bytes.
+pub fn judge_table(changed: &Network, lent: &Lent, flow: &[i64], table: &[u8], judged: &mut Judged) {
+    let mut cutter = Cutter::new(changed);
+    for k in 0..flow.len() {
+        let left = record::stretch(table, k);
+        if judged.anew[k] {
+            match screen::record_holds(&mut cutter, flow, k, left) {
+                Ok(decided) => judged.undecided += !decided as usize,
+                Err(fault) => judged.faults.push(format!("after the call, {fault}")),
+            }
+        } else if left != record::stretch(lent.table, k) {
+            judged.faults.push(format!("record {k} is not to be written anew, yet it changed"));
+        }
+    }
+}
+
+/// A table of our own choice of reroutes as an accepted call may leave it, only as long as the counts need.
+pub fn own_table(changed: &Network, lent: &Lent, flow: &[i64], anew: &[bool]) -> Vec<u8> {
+    let mut cutter = Cutter::new(changed);
+    let mut table = lent.table[..SIZE * flow.len()].to_vec();
+    for k in (0..flow.len()).filter(|&k| anew[k]) {
+        table[SIZE * k..SIZE * (k + 1)].copy_from_slice(&screen::own_record(&mut cutter, flow, k));
+    }
+    table
+}

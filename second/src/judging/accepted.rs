@@ -1,0 +1,141 @@
+//! What an accepted screen, outage or return left: judged by the definitions, and counted by kind.
+
+use crate::definitions::comeback;
+use crate::definitions::cuts::Cutter;
+use crate::definitions::network::Network;
+use crate::definitions::outage;
+use crate::definitions::record::{self, SIZE};
+use crate::definitions::screen;
+use crate::definitions::switching::{Judged, Way};
+use crate::judging::run::{self, Run};
+use crate::judging::tally::Tally;
+use crate::trial::spaces::Spaces;
+
+/// An accepted switching call: the network before it, how much flow and table it was lent, and its branch.
+pub struct Switch {
+    pub way: Way,
+    pub network: Network,
+    pub flow: usize,
+    pub table: usize,
+    pub branch: usize,
+}
+
+/// The spaces before an accepted call and as it left them, and the run that it belongs to.
+pub struct Call<'a> {
+    pub before: &'a Spaces,
+    pub left: &'a Spaces,
+    pub run: &'a Run,
+    pub tally: &'a mut Tally,
+}
+
+impl Call<'_> {
+    pub fn judge_screen(&mut self, network: &Network) -> Result<(), String> {
+        let count = network.lines.len();
+        self.beyond_untouched(count)?;
+        if !network.fits(&self.left.flow[..count]) {
+            return Err("the flow left does not fit".into());
+        }
+        self.judge_records(network, 0..count)?;
+        self.tally.accepted("screen", network);
+        Ok(())
+    }
+
+    pub fn judge_switch(&mut self, switch: &Switch) -> Result<(), String> {
+        let Switch { way, network, flow, table, branch } = switch;
+        let count = network.lines.len();
+        self.beyond_untouched(count)?;
+        let start = self.run.before_out(*branch).filter(|_| *way == Way::Back);
+        start.map_or(Ok(()), |start| run::undone(start, self.left, count))?;
+        let lent = self.before.lent(*flow, *table);
+        let judged = match way {
+            Way::Out => outage::judge(network, &lent, *branch, &self.left.flow, &self.left.table),
+            Way::Back => comeback::judge(network, &lent, *branch, &self.left.flow, &self.left.table),
+        };
+        if let Some(fault) = judged.faults.first() {
+            return Err(fault.clone());
+        }
+        let changed = network.with_status(*branch, way.serves());
+        match way {
+            Way::Out => self.count_out(network, *branch, &judged),
+            Way::Back => self.count_back(network, &changed, *branch, &judged),
+        }
+        if self.run.table_true {
+            // A true table stays true: the records kept are judged as well.
+            self.judge_records(&changed, (0..count).filter(|&k| !judged.anew[k]))?;
+        }
+        Ok(())
+    }
+
+    fn beyond_untouched(&self, count: usize) -> Result<(), String> {
+        if self.before.flow[count..] != self.left.flow[count..] {
+            return Err("flow space beyond the branch count was written".into());
+        }
+        if self.before.table[SIZE * count..] != self.left.table[SIZE * count..] {
+            return Err("table space beyond the branch count was written".into());
+        }
+        Ok(())
+    }
+
+    fn judge_records(&mut self, network: &Network, branches: impl Iterator<Item = usize>) -> Result<(), String> {
+        let flow = &self.left.flow[..network.lines.len()];
+        let mut cutter = Cutter::new(network);
+        for branch in branches {
+            let bytes = record::stretch(&self.left.table, branch);
+            let decided = screen::record_holds(&mut cutter, flow, branch, bytes)?;
+            self.tally.count(match (bytes[0], decided) {
+                (0, _) => "records: out of service",
+                (1, true) => "records: carries",
+                (1, false) => "records: carries, reroute undecided",
+                _ => "records: short",
+            });
+        }
+        Ok(())
+    }
+
+    fn count_out(&mut self, network: &Network, branch: usize, judged: &Judged) {
+        let count = network.lines.len();
+        let own = record::stretch(&self.before.table, branch);
+        let untrue = !self.run.holds(network, self.before);
+        let beyond = (count..256).any(|k| record::names(own, k));
+        self.tally.accepted("out", network);
+        self.tally.kinds(
+            "out",
+            &[
+                ("that moved flow", self.before.flow[branch] != 0),
+                ("that fell back to all branches", judged.fell_back),
+                ("from an untrue table", untrue),
+                ("from an untrue table, its record names the branch itself", untrue && record::names(own, branch)),
+                ("from an untrue table, its record names bits beyond the count", untrue && beyond),
+                ("from an untrue table, with records kept", untrue && judged.anew.contains(&false)),
+                ("from a true table", !untrue),
+            ],
+        );
+        self.tally.records("out", "on the shortlist", judged);
+    }
+
+    fn count_back(&mut self, network: &Network, changed: &Network, branch: usize, judged: &Judged) {
+        let old = |k: usize| record::stretch(&self.before.table, k);
+        let kept: Vec<usize> = (0..network.lines.len()).filter(|&k| !judged.anew[k]).collect();
+        let turned = (0..network.lines.len()).filter(|&k| old(k)[0] == 2 && self.left.table[SIZE * k] == 1).count();
+        let untrue = !self.run.holds(network, self.before);
+        let kept_out = kept.iter().any(|&k| !network.lines[k].served);
+        let kept_naming = kept.iter().any(|&k| record::names(old(k), branch));
+        let held = old(branch).iter().any(|&byte| byte != 0);
+        self.tally.accepted("back", changed);
+        self.tally.kinds(
+            "back",
+            &[
+                ("in a run mixed with outages, from a true table", self.run.after_outages()),
+                ("out and back with nothing else between, all as it was", self.run.before_out(branch).is_some()),
+                ("that turned short records into carrying", turned > 0),
+                ("from an untrue table", untrue),
+                ("from an untrue table, with a record of byte 0 = 1 kept out of service", untrue && kept_out),
+                ("from an untrue table, with a record kept that names the returned branch", untrue && kept_naming),
+                ("from an untrue table, its own record not all zeros", untrue && held),
+                ("from a true table", !untrue),
+            ],
+        );
+        self.tally.add("back: short records turned into carrying", turned);
+        self.tally.records("back", "written anew", judged);
+    }
+}
