@@ -5,8 +5,19 @@ ghost use Rattle.screen.specs.Promise.{ScreenEnds};
 ghost use Rattle.outage.specs.Promise.{TakeEnds};
 ghost use Rattle.restore.specs.Promise.{BackEnds};
 ghost use Rattle.callable.specs.Promise.{SaidInParts};
-use answer::number_of;
-use answer::shortage_of;
+ghost use Rattle.callable.specs.Inside.{Parts};
+use answer::Answer;
+
+// An answer in its three parts.
+fn tell(answer: Answer, shortage: &mut u32, group: &mut [u8; 16]) -> u8
+    ensures { λ r. ⌜ Parts answer r (now (shortage .exit)) (now (group .exit)) ⌝ }
+{
+    let outcome = answer.outcome;
+    let reached = answer.group;
+    *shortage = answer::shortage_of(outcome);
+    *group = reached;
+    answer::number_of(outcome)
+}
 
 #[no_mangle]
 pub extern "C" fn callable_screen(
@@ -19,11 +30,7 @@ pub extern "C" fn callable_screen(
     ensures { λ r. ⌜ SaidInParts (ScreenEnds (lent (now (book .entry)) (now (flow .entry)) (now (table .entry))) (lent (now (book .entry)) (now (flow .exit)) (now (table .exit)))) r (now (shortage .exit)) (now (group .exit)) ⌝ }
 {
     let answer = screen::screen(book, flow, table);
-    let outcome = answer.outcome;
-    let reached = answer.group;
-    *shortage = shortage_of(outcome);
-    *group = reached;
-    number_of(outcome)
+    tell(answer, shortage, group)
 }
 
 #[no_mangle]
@@ -38,11 +45,7 @@ pub extern "C" fn callable_take_out(
     ensures { λ r. ⌜ SaidInParts (TakeEnds branch (lent (now (book .entry)) (now (flow .entry)) (now (table .entry))) (lent (now (book .exit)) (now (flow .exit)) (now (table .exit)))) r (now (shortage .exit)) (now (group .exit)) ⌝ }
 {
     let answer = outage::take_out(book, flow, table, branch);
-    let outcome = answer.outcome;
-    let reached = answer.group;
-    *shortage = shortage_of(outcome);
-    *group = reached;
-    number_of(outcome)
+    tell(answer, shortage, group)
 }
 
 #[no_mangle]
@@ -57,9 +60,5 @@ pub extern "C" fn callable_bring_back(
     ensures { λ r. ⌜ SaidInParts (BackEnds branch (lent (now (book .entry)) (now (flow .entry)) (now (table .entry))) (lent (now (book .exit)) (now (flow .entry)) (now (table .exit)))) r (now (shortage .exit)) (now (group .exit)) ⌝ }
 {
     let answer = restore::bring_back(book, flow, table, branch);
-    let outcome = answer.outcome;
-    let reached = answer.group;
-    *shortage = shortage_of(outcome);
-    *group = reached;
-    number_of(outcome)
+    tell(answer, shortage, group)
 }
