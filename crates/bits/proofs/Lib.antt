@@ -3,3 +3,4 @@ pub mod ReadAsPut
 pub mod Window
 pub mod Fields
 pub mod Again
+pub mod Counting

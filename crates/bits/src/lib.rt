@@ -1,8 +1,9 @@
-// Fields of bits in a row of bytes, most significant first.
+// Bits in a row of bytes, the most significant of a byte first: fields read and put, one bit made or tested, all of them counted.
 ghost use mathlib.Core.Path.{_≡_};
 ghost use Prim.Native.Nat.{_+_, _<_, _≤_, _^_};
 ghost use Rattle.rows.specs.Row.{nth};
 ghost use Rattle.rows.specs.Bit.{has};
+ghost use Rattle.rows.specs.Sum.{size};
 ghost use Rattle.bits.specs.Field.{field, withBit, setBit, put};
 
 // Byte k, and 0 past the end.
@@ -56,9 +57,22 @@ pub fn put(out: &mut [u8], at: usize, width: usize, v: u32)
     }
 }
 
-// Whether bit k of a row of 256 is 1.
-pub fn is_set(row: [u8; 32], k: usize) -> bool
-    ensures { λ r. ⌜ r ≡ has row k ⌝ }
+// Whether bit k is 1.
+pub fn is_set(row: &[u8], k: usize) -> bool
+    ensures { λ r. ⌜ r ≡ has (now (row .entry)) k ⌝ }
 {
-    field(&row, k, 1) == 1
+    field(row, k, 1) == 1
+}
+
+// How many bits of a group are 1, by the processor's own count of set bits, byte by byte.
+pub fn count(group: [u8; 16]) -> usize
+    ensures { λ r. ⌜ r ≡ size 128 (has group) ⌝ }
+{
+    let mut total: usize = 0;
+    let mut k: usize = 0;
+    while k < 16 {
+        total += u8::count_ones(group[k]) as usize;
+        k += 1;
+    }
+    total
 }

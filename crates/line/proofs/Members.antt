@@ -5,16 +5,14 @@ use mathlib.Core.List.{[]}
 use Prim.Native.Nat.{ℕ, zero, suc, _+_, _-_, _≤_}
 use native.Mathlib.Omega.{arith}
 use native.Mathlib.Nat.{add-zero, add-suc}
-use Rattle.rows.specs.Sum.{Group, over}
-use Rattle.listing.specs.Members.{size}
+use Rattle.rows.specs.Sum.{Group, pick, over, size}
+use Rattle.rows.proofs.Sum.{over-same}
 use Rattle.line.specs.Text.{nextOf, joined}
 use Rattle.line.specs.AnswerText.{membersText}
 use Rattle.line.proofs.Joined.{joined-same, joined-past}
 
 size-same : (n : ℕ) (S R : Group) → ((i : ℕ) → S i ≡ R i) → size n S ≡ size n R
-unfolding over
-size-same zero S R h = refl
-size-same (suc n) S R h = rw (size-same n S R h, h n) refl
+size-same n S R h = over-same n S R (λ i. 1) (λ i. 1) (λ i u. ap (λ (b : Bool). pick b 1) (h i))
 
 size-past : (n d : ℕ) (S : Group) → ((i : ℕ) → n ≤ i → S i ≡ false) → size (n + d) S ≡ size n S
 unfolding over

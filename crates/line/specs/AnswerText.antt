@@ -5,8 +5,7 @@ use Prim.Native.Nat.{ℕ}
 use Rattle.answer.specs.declared.Answer.{Answer}
 use Rattle.answer.specs.Answer.{numberOf, shortageOf}
 use Rattle.rows.specs.Bit.{has}
-use Rattle.rows.specs.Sum.{Group}
-use Rattle.listing.specs.Members.{size}
+use Rattle.rows.specs.Sum.{Group, size}
 use Rattle.line.specs.Text.{nextOf, joined}
 
 -- How many of the buses below n are in S, and these in rising order.

@@ -16,12 +16,11 @@ pub fn put_group(out: &mut [u8], at: usize, group: [u8; 16]) -> usize
     ensures { λ r. ⌜ Added (groupText group) (now (out .entry)) at (now (out .exit)) r ⌝ }
     ensures { λ r. ⌜ r ≤ at + 2709 ⌝ }
 {
-    let members = listing::unpack(group);
-    let flags = members.flags;
-    let mut end = put_next(out, at, members.count as u64);
+    let count = bits::count(group);
+    let mut end = put_next(out, at, count as u64);
     let mut i: usize = 0;
     while i < 128 {
-        if flags[i] == 1 {
+        if bits::is_set(&group, i) {
             end = put_next(out, end, i as u64);
         }
         i += 1;

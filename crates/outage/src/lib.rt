@@ -29,7 +29,7 @@ fn is_listed(rec: &[u8], serving: bool, touched: [u8; 32], k: usize) -> bool
     if !serving {
         return true;
     }
-    if bits::is_set(touched, k) {
+    if bits::is_set(&touched, k) {
         return true;
     }
     record::is_listed(rec, touched)

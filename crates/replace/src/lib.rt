@@ -15,7 +15,7 @@ fn chosen(branches: usize, named: [u8; 32], inside: Latent, mut outside: Latent)
 {
     let mut k: usize = 0;
     while k < branches {
-        if bits::is_set(named, k) {
+        if bits::is_set(&named, k) {
             outside.ahead[k] = inside.ahead[k];
             outside.back[k] = inside.back[k];
         }

@@ -30,6 +30,10 @@ unfoldable pub over : ℕ → Group → (ℕ → ℕ) → ℕ
 over zero S f = 0
 over (suc n) S f = over n S f + pick (S n) (f n)
 
+-- How many of the numbers below n are in S.
+abbrev pub size : ℕ → Group → ℕ
+size n S = over n S (λ i. 1)
+
 abbrev pub pickℤ : Bool → ℤ → ℤ
 pickℤ true x = x
 pickℤ false x = pos 0

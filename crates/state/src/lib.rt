@@ -205,7 +205,7 @@ pub fn rewrite(
     let mut judged: usize = 0;
     let mut k: usize = 0;
     while k < wires.branches {
-        if bits::is_set(listed, k) {
+        if bits::is_set(&listed, k) {
             let a = 52 * k;
             let e = a + 52;
             put_verdict(&mut table[a..e], wires, served, live, latent, k);

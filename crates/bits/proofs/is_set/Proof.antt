@@ -7,9 +7,6 @@ use Rattle.bits.proofs.ReadAsPut.{field-one}
 use Rattle.bits.proofs.is_set.Statement.{statement}
 use Rattle.bits.proofs.is_set.Tie as tie
 
-slice-aggregate-field : tie.Need-slice-aggregate-field
-slice-aggregate-field c = search needs
-
 field-requires : tie.Need-field-requires
 field-requires c κs = search needs
 
@@ -17,4 +14,4 @@ returns : tie.Need-returns
 returns c = ap (λ (x : ℕ). eqb x 1) (c .field .ensures ∙ field-one _ _)
 
 pub is-set-spec : {M : Type 1} → statement M
-is-set-spec = tie.close (tie.spec slice-aggregate-field field-requires returns)
+is-set-spec = tie.close (tie.spec field-requires returns)

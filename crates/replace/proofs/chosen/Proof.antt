@@ -17,6 +17,9 @@ abbrev μ-loop : tie.MeasureT-loop
 loop-holds : tie.Need-loop-holds Inv-loop μ-loop
 loop-holds c = choosing-none (c .pre) (search needs) (search needs)
 
+slice-aggregate-is-set : tie.Need-slice-aggregate-is-set Inv-loop μ-loop
+slice-aggregate-is-set c = search needs
+
 is-set-requires : tie.Need-is-set-requires Inv-loop μ-loop
 is-set-requires c κs = search needs
 
@@ -52,8 +55,8 @@ loop-less c = omega arith
 
 loop-again : tie.Need-loop-again Inv-loop μ-loop
 loop-again c =
-    let C = c .before .before .before .loop .inv in
-    let u = c .before .before .loop-test .taken in
+    let C = c .before .before .before .before .loop .inv in
+    let u = c .before .before .before .loop-test .taken in
     let e = c .before .is-set .ensures in
     ⊎-elim (λ w. rw (w .3) (choosing-set C u (sym e ∙ w .0 .taken))) (λ w. rw (w .1) (choosing-skip C u (sym e ∙ w .0 .left))) (c .if1 .came)
 
@@ -67,6 +70,7 @@ chosen-spec =
     Inv-loop
     μ-loop
     loop-holds
+    slice-aggregate-is-set
     is-set-requires
     mul-outside
     element-copy-out-outside

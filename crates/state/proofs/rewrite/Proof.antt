@@ -10,13 +10,16 @@ use Rattle.state.proofs.rewrite.Statement.{statement}
 use Rattle.state.proofs.rewrite.Tie as tie
 
 abbrev Inv-loop : tie.InvT-loop
-Inv-loop table₀ wires live latent listed served judged₀ k₀ table judged k = Going wires served live latent listed table₀ table judged k
+Inv-loop table₀ wires live latent served listed judged₀ k₀ table judged k = Going wires served live latent listed table₀ table judged k
 
 abbrev μ-loop : tie.MeasureT-loop
-μ-loop table₀ wires live latent listed served judged₀ k₀ table judged k = wires .branches - k
+μ-loop table₀ wires live latent served listed judged₀ k₀ table judged k = wires .branches - k
 
 loop-holds : tie.Need-loop-holds Inv-loop μ-loop
 loop-holds c = going-none _ _ _ _ _ (c .before .pre .0) (c .before .pre .1)
+
+slice-aggregate-is-set : tie.Need-slice-aggregate-is-set Inv-loop μ-loop
+slice-aggregate-is-set c = search needs
 
 is-set-requires : tie.Need-is-set-requires Inv-loop μ-loop
 is-set-requires c κs = search needs
@@ -38,8 +41,8 @@ part-put-verdict-end c = omega arith
 
 put-verdict-requires : tie.Need-put-verdict-requires Inv-loop μ-loop
 put-verdict-requires c κs =
-    let g = c .before .before .before .before .before .loop .inv in
-    let u = c .before .before .before .if1 .taken in
+    let g = c .before .before .before .before .before .before .loop .inv in
+    let u = c .before .before .before .before .if1 .taken in
     (g .poised, u, simp (length-take, length-drop) (omega (arith, u, g .room, g .long)))
 
 array-read-counted : tie.Need-array-read-counted Inv-loop μ-loop
@@ -47,8 +50,8 @@ array-read-counted c = omega arith
 
 counted-requires : tie.Need-counted-requires Inv-loop μ-loop
 counted-requires c κs =
-    let g = c .before .before .before .before .before .before .before .before .loop .inv in
-    omega (arith, c .before .before .before .before .before .before .if1 .taken, g .low, g .poised .state .held .linked .wired .size)
+    let g = c .before .before .before .before .before .before .before .before .before .loop .inv in
+    omega (arith, c .before .before .before .before .before .before .before .if1 .taken, g .low, g .poised .state .held .linked .wired .size)
 
 add-k : tie.Need-add-k Inv-loop μ-loop
 add-k c = omega arith
@@ -58,8 +61,8 @@ loop-less c = omega arith
 
 loop-again : tie.Need-loop-again Inv-loop μ-loop
 loop-again c =
-    let g = c .before .before .before .before .loop .inv in
-    let u = c .before .before .if1 .taken in
+    let g = c .before .before .before .before .before .loop .inv in
+    let u = c .before .before .before .if1 .taken in
     elim (c .if2 .came) [
       | inl w ↦ going-written _ _ _ _ _ g u (sym (c .before .is-set .ensures) ∙ w .0 .taken) (w .2 .ensures) (w .6) (w .7 ∙ w .5 .ensures)
       | inr w ↦ rw (w .1, w .2) (going-kept _ _ _ _ _ g u (sym (c .before .is-set .ensures) ∙ w .0 .left))
@@ -78,6 +81,7 @@ rewrite-spec =
     Inv-loop
     μ-loop
     loop-holds
+    slice-aggregate-is-set
     is-set-requires
     mul-a
     add-e

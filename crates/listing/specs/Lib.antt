@@ -1,2 +1,0 @@
-pub mod Members
-pub mod Inside
