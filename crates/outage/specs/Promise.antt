@@ -5,7 +5,7 @@ use mathlib.Core.List.{List, _∷_}
 use Prim.Native.Nat.{ℕ, _<_}
 use lib.IntN.{ℤ, pos}
 use lib.ListN.{length}
-use Rattle.rows.specs.Sum.{over}
+use Rattle.rows.specs.Sum.{size}
 use Rattle.answer.specs.Answer.{accepted}
 use Rattle.answer.specs.declared.Outcome.{Outcome}
 use Rattle.answer.specs.declared.Outcome.the-variants.{Accepted}
@@ -61,7 +61,7 @@ pub record Judges (C : Case) (touched : ℕ → Type 0) (table : List ℕ) (n : 
   pub judged : ℕ → Bool
   pub if-listed : (k : ℕ) → k < C .branches → Shortlisted C table touched k → C .served k ≡ true → judged k ≡ true
   pub if-not : (k : ℕ) → k < C .branches → (Shortlisted C table touched k → C .served k ≡ true → ⊥) → judged k ≡ false
-  pub count : n ≡ over (C .branches) judged (λ k. 1)
+  pub count : n ≡ size (C .branches) judged
 
 pub record TakeCounted (b : ℕ) (before after : Lent) (r : Taken) : Type 0 where
   pub ends : TakeEnds b before after (r .answer)

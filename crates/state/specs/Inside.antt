@@ -7,7 +7,7 @@ use lib.IntN.{ℤ}
 use lib.ListN.{length, getD}
 use Rattle.rows.specs.Row.{nth}
 use Rattle.rows.specs.Bit.{has}
-use Rattle.rows.specs.Sum.{pick, over}
+use Rattle.rows.specs.Sum.{pick, size}
 use Rattle.bits.specs.Field.{Bytes}
 use Rattle.quantity.specs.declared.Kw.{Kw}
 use Rattle.quantity.specs.Inside.{kwAt}
@@ -112,7 +112,7 @@ pub record Rewriting (C : Case) (f : ℕ → ℤ) (listed : List ℕ) (n : ℕ) 
 
 -- How many of the first n branches are listed and in service: so many losses are judged.
 abbrev pub judgedOf : List Bool → List ℕ → ℕ → ℕ
-judgedOf served listed n = over n (λ k. has listed k && getD served k false) (λ k. 1)
+judgedOf served listed n = size n (λ k. has listed k && getD served k false)
 
 -- `rewrite`
 pub record Rewritten (C : Case) (f : ℕ → ℤ) (served : List Bool) (listed t t′ : List ℕ) (judged : ℕ) : Type 0 where
