@@ -2,31 +2,36 @@
 //!
 //! A folder imports only from folders named above it here; `tests/folders.rs` holds that.
 
-/// What the papers define: books, networks, verdicts, records, calls with their refusals, meters, the list.
+/// What the papers define: books of either form, networks, verdicts, records, calls with their refusals, meters, the list.
 pub mod definitions {
     pub mod answer;
     pub mod bits;
     pub mod book;
+    pub mod branch;
     pub mod comeback;
     pub mod cuts;
+    pub mod form;
     pub mod groups;
     pub mod list;
     pub mod maxflow;
     pub mod meters;
+    pub mod moves;
     pub mod network;
     pub mod outage;
     pub mod record;
     pub mod reroutes;
     pub mod screen;
     pub mod switching;
+    pub mod tables;
 }
 
 /// Books to try: those with a name, those of source document 001, random ones, and the text form of any.
 pub mod books {
+    pub mod named;
     pub mod plain;
     pub mod random;
     pub mod random_books;
-    pub mod shelf;
+    pub mod random_forms;
     pub mod sources;
     pub mod text;
 }
@@ -44,9 +49,12 @@ pub mod streams {
     pub mod damage;
     pub mod gate;
     pub mod make;
+    pub mod make_forms;
     pub mod make_returns;
     pub mod make_tables;
+    pub mod make_written;
     pub mod stored;
+    pub mod stored_forms;
     pub mod stored_returns;
     pub mod under_way;
 }
@@ -55,8 +63,11 @@ pub mod streams {
 pub mod judging {
     pub mod accepted;
     pub mod faults;
+    pub mod faults_forms;
     pub mod faults_returns;
+    pub mod forms;
     pub mod judge;
+    pub mod moved;
     pub mod plant;
     pub mod run;
     pub mod selftest;

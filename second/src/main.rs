@@ -1,7 +1,7 @@
 //! The commands of the second opinion.
 
-use second::books::{shelf, text};
-use second::definitions::{book, list};
+use second::books::{named, text};
+use second::definitions::{book, list, tables};
 use second::judging::{judge, selftest, trials};
 use second::streams::{gate, make, stored};
 use second::trial::{fixed, reference};
@@ -96,13 +96,13 @@ fn held(crates: &str) -> Result<bool, String> {
 fn make_book(from: &str, file: &str) -> Result<(), String> {
     let words = String::from_utf8(read(from)?).map_err(|_| "not text".to_string())?;
     let made = text::parse(&words)?;
-    let bytes =
-        book::write(made.injections.len(), made.branches.len(), made.factor, &made.injections, &book::rows(&made), usize::MAX);
+    let (buses, count, numbers) = (made.injections.len(), made.branches.len(), tables::numbers(&made));
+    let bytes = tables::write(made.form, buses, count, made.factor, &made.injections, &numbers, usize::MAX);
     write(Path::new(file), &bytes.map_err(|number| format!("refused {number}"))?)
 }
 
 fn files(dir: &Path) -> Result<(), String> {
-    for (name, bytes) in shelf::inputs() {
+    for (name, bytes) in named::inputs() {
         write(&dir.join("books").join(format!("{name}.book")), &bytes)?;
         if let Ok(book) = book::unpack(&bytes) {
             write(&dir.join("books").join(format!("{name}.txt")), text::print(&book).as_bytes())?;

@@ -2,9 +2,11 @@
 
 use second::books::random::Random;
 use second::books::random_books::{counts, served, strained};
-use second::definitions::book::{pack, rows, unpack, write};
+use second::definitions::book::{pack, unpack};
+use second::definitions::form::Form;
 use second::definitions::network::{Network, Verdict};
 use second::definitions::reroutes::{confined, exactly, Exactly};
+use second::definitions::tables::{numbers, write};
 use second::definitions::{cuts, groups};
 
 #[test]
@@ -53,15 +55,18 @@ fn both_ways_to_cut_agree_on_large_books() {
 #[test]
 fn books_come_back_from_their_bytes() {
     let mut random = Random(2);
+    let mut new = 0;
     for _ in 0..2000 {
         let (buses, count) = counts(&mut random);
         let book = strained(&mut random, buses, count);
         let bytes = pack(&book);
         assert_eq!(unpack(&bytes).as_ref(), Ok(&book));
-        let again = write(buses, book.branches.len(), book.factor, &book.injections, &rows(&book), bytes.len());
-        assert_eq!(again.as_ref(), Ok(&bytes));
-        assert_eq!(write(buses, book.branches.len(), book.factor, &book.injections, &rows(&book), bytes.len() - 1), Err(8));
+        let written = |room| write(book.form, buses, book.branches.len(), book.factor, &book.injections, &numbers(&book), room);
+        assert_eq!(written(bytes.len()).as_ref(), Ok(&bytes));
+        assert_eq!(written(bytes.len() - 1), Err(8));
+        new += (book.form == Form::New) as usize;
     }
+    assert!((800..1200).contains(&new), "{new}");
 }
 
 /// Every whole flow of a network without `branch` within the limits that fits, one by one.

@@ -1,6 +1,6 @@
 //! The stored books and expected lists are what this program makes today.
 
-use second::books::{shelf, text};
+use second::books::{named, text};
 use second::definitions::{book, list};
 use second::streams::stored;
 use std::fs;
@@ -9,7 +9,7 @@ use std::path::Path;
 #[test]
 fn stored_files_are_up_to_date() {
     let here = Path::new(env!("CARGO_MANIFEST_DIR"));
-    for (name, bytes) in shelf::inputs() {
+    for (name, bytes) in named::inputs() {
         assert_eq!(fs::read(here.join("books").join(format!("{name}.book"))).unwrap(), bytes, "{name}");
         assert_eq!(fs::read_to_string(here.join("expected").join(format!("{name}.txt"))).unwrap(), list::list(&bytes), "{name}");
         if let Ok(stored) = book::unpack(&bytes) {
@@ -27,8 +27,17 @@ fn fingerprint(bytes: &[u8]) -> u64 {
 
 #[test]
 fn the_stored_stream_begins_as_it_did_before_returns_came() {
-    // The 12,835 bytes of then end in a bad command of 3 bytes, which stops a stream and so is still the last.
+    begins_as(12_835, 0x358_dbe9_882c_a8b9);
+}
+
+#[test]
+fn the_stored_stream_begins_as_it_did_before_the_new_form_came() {
+    begins_as(18_172, 0x9c00_eb85_be66_dc26);
+}
+
+/// The stream of then, so many bytes, ended in a bad command of 3 bytes, which stops a stream and so is still the last.
+fn begins_as(length: usize, print: u64) {
     let stream = stored::stream();
-    assert_eq!(fingerprint(&stream[..12_832]), 0x358_dbe9_882c_a8b9);
-    assert!(stream.len() > 12_835 && stream.ends_with(b"F\x01\x00"));
+    assert_eq!(fingerprint(&stream[..length - 3]), print);
+    assert!(stream.len() > length && stream.ends_with(b"F\x01\x00"));
 }

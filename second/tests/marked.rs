@@ -1,9 +1,10 @@
 //! Document 01's marked examples (a) to (l), its two books and its own numbers, by both methods.
 
+use second::books::named::{largest, second_book, triangle};
 use second::books::plain::{plain, with_out};
-use second::books::shelf::{largest, second_book, triangle};
 use second::definitions::answer::Answer;
-use second::definitions::book::{length, pack, unpack, with_status, Book};
+use second::definitions::book::{pack, unpack, with_status, Book};
+use second::definitions::form::Form;
 use second::definitions::meters::{advance, injections, Registers};
 use second::definitions::network::{limit_in_kw, Excess, Network, Verdict};
 use second::definitions::outage::{allowed, own_result};
@@ -32,8 +33,8 @@ fn the_triangle_has_the_papers_bytes() {
 }
 
 #[test]
-fn the_largest_book_has_1460_bytes() {
-    assert_eq!(length(128, 256), 1460);
+fn the_largest_old_book_has_1460_bytes() {
+    assert_eq!(Form::Old.length(128, 256), 1460);
     assert_eq!(pack(&largest()).len(), 1460);
 }
 

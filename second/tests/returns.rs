@@ -1,9 +1,9 @@
 //! A branch comes back (document 02, W1): small cases by hand, out and back, runs mixed with outages on random books.
 
+use second::books::named::{second_and_feeder, triangle};
 use second::books::plain::with_out;
 use second::books::random::Random;
 use second::books::random_books::served;
-use second::books::shelf::{second_and_feeder, triangle};
 use second::books::sources::{five_bus, FIVE_3_4, FIVE_3_5, FIVE_FLOWS};
 use second::definitions::book::{pack, unpack, with_status, Book};
 use second::definitions::network::{Excess, Network, Verdict};

@@ -50,7 +50,7 @@ fn remarks_and_empty_lines_are_passed_over() {
 
 #[test]
 fn what_is_wrong_is_said_with_its_line() {
-    let line = "it is none of 'factor F', 'bus KW', 'branch FIRST SECOND KVA in|out'";
+    let line = "it is none of 'factor F', 'form new', 'bus KW', 'branch FIRST SECOND KVA in|out'";
     for (from, to, due) in [
         ("factor 1000", "factor 1001", "Line 1: '1001' is not a power factor from 1 to 1000."),
         ("factor 1000", "1000", &format!("Line 1: {line}.")),
@@ -64,12 +64,52 @@ fn what_is_wrong_is_said_with_its_line() {
         ("0 1 40 in", "0 1 4294967336 in", "Line 5: '4294967336' is not a rating in kVA from 0 to 1000000."),
         ("0 1 40 in", "0 -1 40 in", "Line 5: '-1' is not a bus from 0 to 127."),
         ("0 1 40 in", "0 1 40", &format!("Line 5: {line}.")),
+        ("0 1 40 in", "0 1 40 40 in", &format!("Line 5: {line}.")),
+        ("factor 1000", "form old", &format!("Line 1: {line}.")),
+        ("branch 1 2", "form new\nbranch 1 2", "Line 7: 'form new' has to stand before the branches."),
         ("0 1 40 in", "0 1 40 on", "Line 5: 'on' is neither 'in' nor 'out'."),
         ("0 1 40 in", "1 1 40 in", "Line 5: both ends of the branch are bus 1."),
         ("1 2 30 in", "1 3 30 in", "Line 7: there is no bus 3, since the 3 buses are numbered from 0."),
         (TRIANGLE, "", "A book has 1 to 128 buses and up to 256 branches, this text 0 and 0."),
     ] {
         assert_eq!(text::parse(&TRIANGLE.replacen(from, to, 1)), Err(due.to_string()));
+    }
+}
+
+/// The triangle in the new form, two of its second ratings above the first.
+const TRIANGLE_NEW: &str =
+    "factor 1000\nform new\nbus 30\nbus -10\nbus -20\nbranch 0 1 40 55 in\nbranch 0 2 40 40 in\nbranch 1 2 30 1000000 out\n";
+
+#[test]
+fn a_new_book_goes_both_ways() {
+    let (words, book) = (made("new.txt"), made("new.book"));
+    fs::write(&words, TRIANGLE_NEW).unwrap();
+    assert!(run(&["book".as_ref(), &words, &book]).status.success());
+    let bytes = fs::read(&book).unwrap();
+    assert_eq!((bytes.len(), &bytes[..4]), (33, &[0x03, 0x01, 0xFD, 0x10][..]));
+    let back = run(&["text".as_ref(), &book]);
+    assert_eq!(String::from_utf8(back.stdout).unwrap(), TRIANGLE_NEW);
+    // The line may stand anywhere before the branches.
+    let later = TRIANGLE_NEW.replace("form new\n", "").replace("bus -20\n", "bus -20\n form new # both figures\n");
+    assert_eq!(text::parse(&later), text::parse(TRIANGLE_NEW));
+    for name in ["triangle-new", "second-new", "second-two", "largest-new"] {
+        let again = run(&["text".as_ref(), &stored(&format!("{name}.book"))]);
+        assert_eq!(again.stdout, fs::read(stored(&format!("{name}.txt"))).unwrap());
+    }
+}
+
+#[test]
+fn what_is_wrong_with_a_new_book_is_said_with_its_line() {
+    let line = "it is none of 'factor F', 'form new', 'bus KW', 'branch FIRST SECOND KVA SECOND-KVA in|out'";
+    for (from, to, due) in [
+        ("40 55 in", "40 39 in", "Line 6: the second rating of 39 kVA is below the first of 40."),
+        ("40 55 in", "40 1000001 in", "Line 6: '1000001' is not a second rating in kVA from 0 to 1000000."),
+        ("40 55 in", "1000001 55 in", "Line 6: '1000001' is not a rating in kVA from 0 to 1000000."),
+        ("40 55 in", "40 in", &format!("Line 6: {line}.")),
+        ("40 55 in", "40 55 on", "Line 6: 'on' is neither 'in' nor 'out'."),
+        ("form new\n", "", "Line 5: it is none of 'factor F', 'form new', 'bus KW', 'branch FIRST SECOND KVA in|out'."),
+    ] {
+        assert_eq!(text::parse(&TRIANGLE_NEW.replacen(from, to, 1)), Err(due.to_string()));
     }
 }
 

@@ -26,11 +26,23 @@ fn commands_come_back_from_their_bytes() {
 fn bad_commands_stop_the_stream() {
     let too_large = [&b"F\x01\x00\0\0\0\0"[..], b"T\x34\x00\0", b"S\x01\x01\0\0", b"B\x08\x35", b"M\0\0\0\0\x81\0"];
     let returns = [&b"K\x01\x01\0\0\0\0"[..], b"K\0\0\x34\x01\0\0", b"k\0\0\0\0\0\0"];
-    for bad in [&b"x"[..]].into_iter().chain(too_large).chain(returns) {
+    let moves = [&b"L\x02\0\0"[..], b"L\xff\0\0", b"L\0\x08\x35", b"L\x01\xff\xff", b"l\0\0\0"];
+    let writes =
+        [&b"X\0\x01\0\0\0\x01\0\x81\0\0\0\0"[..], b"X\0\x01\0\0\0\x01\0\0\x05\x01\0\0", b"X\0\x01\0\0\0\x01\0\0\0\0\x08\x35"];
+    for bad in [&b"x"[..]].into_iter().chain(too_large).chain(returns).chain(moves).chain(writes) {
         assert_eq!(output(bad), "bad command\n");
         assert_eq!(output(&[bad, b"D"].concat()), "bad command\n");
     }
-    for cut_short in [&b"B\x00\x02\x01"[..], b"O\0\0\0\0\0", b"K\0\0\0\0\0", b"K", b"M\x01\x01\x01\x01\x01\0\0\0\0\x05"] {
+    for cut_short in [
+        &b"B\x00\x02\x01"[..],
+        b"O\0\0\0\0\0",
+        b"K\0\0\0\0\0",
+        b"K",
+        b"M\x01\x01\x01\x01\x01\0\0\0\0\x05",
+        b"L",
+        b"L\0\0",
+        b"X\0\x01\0\0\0\x01\0\0\0\0\0",
+    ] {
         assert_eq!(output(cut_short), "bad command\n");
     }
     assert_eq!(output(b""), "");
@@ -53,7 +65,7 @@ fn the_stored_stream_visits_every_refusal() {
     let stream = stored::stream();
     let (tally, verdict) = judge(&stream, &output(&stream));
     assert_eq!(verdict, Ok(()));
-    for number in 1..=17 {
+    for number in 1..=18 {
         assert!(tally.of(&format!("refused {number:>2}")) > 0, "{number}");
     }
     for number in [1, 2, 3, 4, 5, 6, 7, 8, 9, 17, 11] {

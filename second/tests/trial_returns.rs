@@ -1,7 +1,7 @@
 //! Branches that come back in a trial: the judge's demands and counts by small streams, and by many random ones.
 
+use second::books::named::triangle;
 use second::books::plain::with_out;
-use second::books::shelf::triangle;
 use second::definitions::book::{pack, Book};
 use second::definitions::switching::Way;
 use second::judging::judge::judge;

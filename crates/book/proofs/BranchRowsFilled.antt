@@ -9,6 +9,7 @@ use Rattle.quantity.specs.declared.Kw.{Kw}
 use Rattle.quantity.specs.Inside.{inKw}
 use Rattle.quantity.specs.Rating.{limitOf}
 use Rattle.bits.proofs.ReadAsPut.{field-lt}
+use Rattle.layout.specs.declared.Form.{Form}
 use Rattle.layout.specs.declared.Branch.{Branch}
 use Rattle.layout.specs.declared.Head.{Head}
 use Rattle.layout.specs.Layout.{branchAfter}
@@ -20,17 +21,17 @@ pub record EndsFit (x : Branch) : Type 0 where
   pub first-fits : x .first < 128
   pub second-fits : x .second < 128
 
-pub ends-fit : (bs : List ℕ) (n k : ℕ) (x : Branch) → x ≡ branchAfter n bs k → EndsFit x
-ends-fit bs n k x e = rw e (record { first-fits = field-lt bs _ 7; second-fits = field-lt bs _ 7 })
+pub ends-fit : (f : Form) (bs : List ℕ) (n k : ℕ) (x : Branch) → x ≡ branchAfter f n bs k → EndsFit x
+ends-fit f bs n k x e = rw e (record { first-fits = field-lt bs _ 7; second-fits = field-lt bs _ 7 })
 
-pub record Branching (bs : List ℕ) (n m factor : ℕ) (first₀ second₀ : List ℕ) (served₀ : List Bool) (limit₀ : List Kw) (first second : List ℕ) (served : List Bool) (limit : List Kw) (k : ℕ) : Type 0 where
-  pub firsts : Filling (λ i. branchAfter n bs i .first) m first₀ first k
-  pub seconds : Filling (λ i. branchAfter n bs i .second) m second₀ second k
-  pub serveds : Filling (λ i. eqb (branchAfter n bs i .status) 1) m served₀ served k
-  pub limits : Filling (λ i. inKw (limitOf (branchAfter n bs i .kva .0) factor)) m limit₀ limit k
+pub record Branching (f : Form) (bs : List ℕ) (n m factor : ℕ) (first₀ second₀ : List ℕ) (served₀ : List Bool) (limit₀ : List Kw) (first second : List ℕ) (served : List Bool) (limit : List Kw) (k : ℕ) : Type 0 where
+  pub firsts : Filling (λ i. branchAfter f n bs i .first) m first₀ first k
+  pub seconds : Filling (λ i. branchAfter f n bs i .second) m second₀ second k
+  pub serveds : Filling (λ i. eqb (branchAfter f n bs i .status) 1) m served₀ served k
+  pub limits : Filling (λ i. inKw (limitOf (branchAfter f n bs i .kva .0) factor)) m limit₀ limit k
 
-module _ (bs : List ℕ) (n m factor : ℕ) where
-  pub branching-start : (first second : List ℕ) (served : List Bool) (limit : List Kw) → Branching bs n m factor first second served limit first second served limit 0
+module _ (f : Form) (bs : List ℕ) (n m factor : ℕ) where
+  pub branching-start : (first second : List ℕ) (served : List Bool) (limit : List Kw) → Branching f bs n m factor first second served limit first second served limit 0
   branching-start first second served limit = record {
     firsts = fill-start _ _ _;
     seconds = fill-start _ _ _;
@@ -48,8 +49,8 @@ module _ (bs : List ℕ) (n m factor : ℕ) where
   kws = replicate 256 (inKw 0)
 
   pub branching-more : (first second : List ℕ) (served : List Bool) (limit : List Kw) (k : ℕ) (x : Branch) (kw : Kw) → k < m → m ≤ 256
-      → Branching bs n m factor zeros zeros nones kws first second served limit k → x ≡ branchAfter n bs k → kw .0 ≡ limitOf (x .kva .0) factor
-      → Branching bs n m factor zeros zeros nones kws (set first k (x .first)) (set second k (x .second)) (set served k (eqb (x .status) 1)) (set limit k kw) (k + 1)
+      → Branching f bs n m factor zeros zeros nones kws first second served limit k → x ≡ branchAfter f n bs k → kw .0 ≡ limitOf (x .kva .0) factor
+      → Branching f bs n m factor zeros zeros nones kws (set first k (x .first)) (set second k (x .second)) (set served k (eqb (x .status) 1)) (set limit k kw) (k + 1)
   branching-more first second served limit k x kw l room w e q = record {
     firsts = fill-more _ _ _ _ _ _ l room (w .firsts) (ap (λ (y : Branch). y .first) e);
     seconds = fill-more _ _ _ _ _ _ l room (w .seconds) (ap (λ (y : Branch). y .second) e);
@@ -58,7 +59,7 @@ module _ (bs : List ℕ) (n m factor : ℕ) where
   }
 
 pub branching-end : (bs : List ℕ) (h : Head) (first second : List ℕ) (served : List Bool) (limit : List Kw) (k : ℕ) → h .branches ≤ k
-    → Branching bs (h .buses) (h .branches) (h .factor) (replicate 256 0) (replicate 256 0) (replicate 256 false) (replicate 256 (inKw 0)) first second served limit k
+    → Branching (h .form) bs (h .buses) (h .branches) (h .factor) (replicate 256 0) (replicate 256 0) (replicate 256 false) (replicate 256 (inKw 0)) first second served limit k
     → BranchesRead bs h (record { first = first; second = second; served = served; limit = limit })
 branching-end bs h first second served limit k l w = record {
   first-row = fill-end _ _ _ _ _ l (w .firsts);

@@ -13,7 +13,8 @@ use Rattle.answer.specs.declared.Answer.{Answer}
 use Rattle.answer.specs.Answer.{bare, refusal, refuseIf}
 use Rattle.rows.specs.Row.{headed}
 use Rattle.bits.specs.Field.{Bytes}
-use Rattle.layout.specs.Layout.{busesIn, branchesIn, injectionAt, bookOf, tableOf, branchAfter}
+use Rattle.layout.specs.Form.{fields}
+use Rattle.layout.specs.Layout.{busesIn, branchesIn, formIn, injectionAt, bookOf, tableOf, branchAfter}
 use Rattle.layout.specs.Check.{checkOf}
 use Rattle.book.proofs.ReadOnce.{read-said}
 use Rattle.layout.specs.declared.Head.{Head}
@@ -45,26 +46,26 @@ module _ (bs : List ℕ) (inj : List ℤ) (bra : List ℕ) (g : Bytes bs) (o : O
     passed : checkOf bs ≡ Accepted
     passed = sym is ∙ a
 
-    short : (x y : Bool) → ltb (length inj) (h .buses) ≡ x → ltb (length bra) (4 * h .branches) ≡ y → readCheck bs (length inj) (length bra) ≡ refuseIf (x || y) 8 Accepted
+    short : (x y : Bool) → ltb (length inj) (h .buses) ≡ x → ltb (length bra) (fields (h .form) * h .branches) ≡ y → readCheck bs (length inj) (length bra) ≡ refuseIf (x || y) 8 Accepted
     unfolding readCheck
-    short x y p q = rw (passed, ← w .buses-are, ← w .branches-are, p, q) refl
+    short x y p q = rw (passed, ← w .form-is, ← w .buses-are, ← w .branches-are, p, q) refl
 
     pub read-few-injections : (o′ : Outcome) (r : Answer) → length inj < h .buses → o′ ≡ refusal 8 → r ≡ bare o′ → BookRead bs inj inj bra bra r
     read-few-injections o′ r l e q = kept bs inj bra (refusal 8) r g (short true _ (lt-ltb _ _ l) refl) (refusal-stands 8) (q ∙ ap bare e)
 
-    pub read-few-branches : (o′ : Outcome) (r : Answer) → h .buses ≤ length inj → length bra < 4 * h .branches → o′ ≡ refusal 8 → r ≡ bare o′ → BookRead bs inj inj bra bra r
+    pub read-few-branches : (o′ : Outcome) (r : Answer) → h .buses ≤ length inj → length bra < fields (h .form) * h .branches → o′ ≡ refusal 8 → r ≡ bare o′ → BookRead bs inj inj bra bra r
     read-few-branches o′ r u l e q = kept bs inj bra (refusal 8) r g (short false true (le-ltb _ _ u) (lt-ltb _ _ l)) (refusal-stands 8) (q ∙ ap bare e)
 
     all-injections : headed (h .buses) (injectionAt bs) inj ≡ bookOf bs .injections ++ drop (busesIn bs) inj
     unfolding bookOf
     all-injections = rw (w .buses-are) refl
 
-    all-branches : tabled (h .branches) (branchAfter (h .buses) bs) bra ≡ tableOf (bookOf bs .branches) ++ drop (4 * branchesIn bs) bra
+    all-branches : tabled (h .form) (h .branches) (branchAfter (h .form) (h .buses) bs) bra ≡ tableOf (formIn bs) (bookOf bs .branches) ++ drop (fields (formIn bs) * branchesIn bs) bra
     unfolding bookOf
-    all-branches = rw (w .buses-are, w .branches-are) refl
+    all-branches = rw (w .form-is, w .buses-are, w .branches-are) refl
 
-    pub read-done : (inj′ : List ℤ) (bra′ : List ℕ) (r : Answer) → h .buses ≤ length inj → 4 * h .branches ≤ length bra
-        → inj′ ≡ headed (h .buses) (injectionAt bs) inj → bra′ ≡ tabled (h .branches) (branchAfter (h .buses) bs) bra
+    pub read-done : (inj′ : List ℤ) (bra′ : List ℕ) (r : Answer) → h .buses ≤ length inj → fields (h .form) * h .branches ≤ length bra
+        → inj′ ≡ headed (h .buses) (injectionAt bs) inj → bra′ ≡ tabled (h .form) (h .branches) (branchAfter (h .form) (h .buses) bs) bra
         → r ≡ bare Accepted → BookRead bs inj inj′ bra bra′ r
     read-done inj′ bra′ r u v p q e =
         let s = short false false (le-ltb _ _ u) (le-ltb _ _ v) in

@@ -12,7 +12,8 @@ use Rattle.answer.specs.declared.Outcome.the-variants.{Accepted}
 use Rattle.answer.specs.declared.Answer.{Answer}
 use Rattle.answer.specs.Answer.{numberOf, noGroup, Said, bare}
 use Rattle.answer.proofs.Refusals.{past-both, leaves}
-use Rattle.layout.specs.Layout.{busesIn, branchesIn, bookOf, tableOf}
+use Rattle.layout.specs.Form.{fields}
+use Rattle.layout.specs.Layout.{busesIn, branchesIn, formIn, bookOf, tableOf}
 use Rattle.layout.specs.Check.{checkOf, checkNumbers}
 use Rattle.answer.proofs.Said.{said-same}
 use Rattle.answer.proofs.Numbers.{Gives, gives-if, gives-then, gives-said, said-is, inside, gives-more}
@@ -24,7 +25,7 @@ pub read-gives : (bs : List ℕ) (i j : ℕ) → Gives readNumbers (readCheck bs
 unfolding readCheck member inside
 read-gives bs i j =
     gives-then readNumbers (checkOf bs) _ (gives-more checkNumbers readNumbers (checkOf bs) refl (check-gives bs))
-    (gives-if readNumbers (ltb i (busesIn bs) || ltb j (4 * branchesIn bs)) 8 Accepted refl tt)
+    (gives-if readNumbers (ltb i (busesIn bs) || ltb j (fields (formIn bs) * branchesIn bs)) 8 Accepted refl tt)
 
 pub read-said : (bs : List ℕ) (i j : ℕ) {r : Answer} → r ≡ bare (readCheck bs i j) → Said r (numberOf (readCheck bs i j)) 0 noGroup
 unfolding member
@@ -50,13 +51,13 @@ pub read-kept : (bs : List ℕ) (inj i : List ℤ) (bra b : List ℕ) (r : Answe
 read-kept bs inj i bra b r d a =
     let o = readCheck bs (length inj) (length bra) in
     let e : o ≡ Accepted → ⊥ = rw (read-answer d) at a in
-    (d .injections-left ∙ leaves o inj (bookOf bs .injections ++ drop (busesIn bs) inj) e, d .branches-left ∙ leaves o bra (tableOf (bookOf bs .branches) ++ drop (4 * branchesIn bs) bra) e)
+    (d .injections-left ∙ leaves o inj (bookOf bs .injections ++ drop (busesIn bs) inj) e, d .branches-left ∙ leaves o bra (tableOf (formIn bs) (bookOf bs .branches) ++ drop (fields (formIn bs) * branchesIn bs) bra) e)
 
 -- A book is read exactly where it is accepted and the tables are long enough.
 pub read-checked : (bs : List ℕ) (i j : ℕ) → readCheck bs i j ≡ Accepted → checkOf bs ≡ Accepted
 unfolding readCheck
 read-checked bs i j e = past-both (checkOf bs) _ e .0
 
-pub readable : (bs : List ℕ) (i j : ℕ) → checkOf bs ≡ Accepted → busesIn bs ≤ i → 4 * branchesIn bs ≤ j → readCheck bs i j ≡ Accepted
+pub readable : (bs : List ℕ) (i j : ℕ) → checkOf bs ≡ Accepted → busesIn bs ≤ i → fields (formIn bs) * branchesIn bs ≤ j → readCheck bs i j ≡ Accepted
 unfolding readCheck
-readable bs i j e p q = rw (e, le-ltb i (busesIn bs) p, le-ltb j (4 * branchesIn bs) q) refl
+readable bs i j e p q = rw (e, le-ltb i (busesIn bs) p, le-ltb j (fields (formIn bs) * branchesIn bs) q) refl

@@ -48,9 +48,9 @@ module _ {A B : Type 0} where
 
 module _ (bs : List ℕ) (h : Head) (w : HeadRead bs h) where
   branch-row : {A : Type 0} (g : Branch → A) (x : A) (k : ℕ) → x ≡ g noBranch
-      → getD (headed (h .branches) (λ i. g (branchAfter (h .buses) bs i)) (replicate 256 x)) k x ≡ g (branch (bookOf bs) k)
+      → getD (headed (h .branches) (λ i. g (branchAfter (h .form) (h .buses) bs i)) (replicate 256 x)) k x ≡ g (branch (bookOf bs) k)
   unfolding bookOf
-  branch-row g x k e = rw (w .buses-are, w .branches-are) (row-of (branchAt bs) g noBranch x (branchesIn bs) 256 k e)
+  branch-row g x k e = rw (w .form-is, w .buses-are, w .branches-are) (row-of (branchAt bs) g noBranch x (branchesIn bs) 256 k e)
 
   bus-row : (g : ℤ → ℕ) (k : ℕ) → 0 ≡ g (pos 0) → getD (headed (h .buses) (λ i. g (injectionAt bs i)) (replicate 128 0)) k 0 ≡ g (injection (bookOf bs) k)
   unfolding bookOf

@@ -13,7 +13,7 @@ use Rattle.bits.specs.Field.{field}
 use Rattle.layout.specs.declared.Fault.{Fault}
 use Rattle.layout.specs.declared.Fault.the-variants.{Sound, At}
 use Rattle.layout.specs.Fault.{firstFault}
-use Rattle.layout.specs.Layout.{bitsFor, bytesFor, busesIn, branchesIn, factorIn, spareIn, injectionAt, tailIn}
+use Rattle.layout.specs.Layout.{bitsFor, bytesFor, busesIn, branchesIn, factorIn, formIn, spareIn, injectionAt, tailIn}
 use Rattle.layout.specs.Check.{outside, balances, busFaultAt, branchFaultAt, headCheck, bodyCheck}
 use Rattle.layout.proofs.AcceptedWhere.{InRange, in-range}
 use Rattle.layout.specs.declared.Head.{Head}
@@ -26,8 +26,8 @@ module _ (bs : List ℕ) (h : Head) (r : HeadRead bs h) where
   out-is : (t : Bool) → out ≡ t → outside (busesIn bs) (branchesIn bs) (factorIn bs) ≡ t
   out-is t e = rw (← r .buses-are, ← r .branches-are, ← r .factor-is) e
 
-  bytes-are : (x : ℕ) → x ≡ bytesFor (h .buses) (h .branches) → x ≡ bytesFor (busesIn bs) (branchesIn bs)
-  bytes-are x e = rw (← r .buses-are, ← r .branches-are) e
+  bytes-are : (x : ℕ) → x ≡ bytesFor (h .form) (h .buses) (h .branches) → x ≡ bytesFor (formIn bs) (busesIn bs) (branchesIn bs)
+  bytes-are x e = rw (← r .form-is, ← r .buses-are, ← r .branches-are) e
 
   pub head-short : length bs < 4 → refusal 1 ≡ headCheck bs
   head-short l = sym (simp (lt-ltb _ _ l))
@@ -38,11 +38,11 @@ module _ (bs : List ℕ) (h : Head) (r : HeadRead bs h) where
   pub head-spare : 4 ≤ length bs → out ≡ false → (spareIn bs ≡ 0 → ⊥) → refusal 3 ≡ headCheck bs
   head-spare l o s = sym (simp (le-ltb _ _ l, out-is false o, ne-eqb _ _ s))
 
-  pub head-length : 4 ≤ length bs → out ≡ false → spareIn bs ≡ 0 → (x : ℕ) → x ≡ bytesFor (h .buses) (h .branches) → (length bs ≡ x → ⊥) → refusal 1 ≡ headCheck bs
-  head-length l o s x e ne = sym (simp (le-ltb _ _ l, out-is false o, eq-eqb _ _ s, ne-eqb (length bs) (bytesFor (busesIn bs) (branchesIn bs)) (λ q. ne (q ∙ sym (bytes-are x e)))))
+  pub head-length : 4 ≤ length bs → out ≡ false → spareIn bs ≡ 0 → (x : ℕ) → x ≡ bytesFor (h .form) (h .buses) (h .branches) → (length bs ≡ x → ⊥) → refusal 1 ≡ headCheck bs
+  head-length l o s x e ne = sym (simp (le-ltb _ _ l, out-is false o, eq-eqb _ _ s, ne-eqb (length bs) (bytesFor (formIn bs) (busesIn bs) (branchesIn bs)) (λ q. ne (q ∙ sym (bytes-are x e)))))
 
-  pub head-good : 4 ≤ length bs → out ≡ false → spareIn bs ≡ 0 → (x : ℕ) → x ≡ bytesFor (h .buses) (h .branches) → length bs ≡ x → Accepted ≡ headCheck bs
-  head-good l o s x e q = sym (simp (le-ltb _ _ l, out-is false o, eq-eqb _ _ s, eq-eqb (length bs) (bytesFor (busesIn bs) (branchesIn bs)) (q ∙ bytes-are x e)))
+  pub head-good : 4 ≤ length bs → out ≡ false → spareIn bs ≡ 0 → (x : ℕ) → x ≡ bytesFor (h .form) (h .buses) (h .branches) → length bs ≡ x → Accepted ≡ headCheck bs
+  head-good l o s x e q = sym (simp (le-ltb _ _ l, out-is false o, eq-eqb _ _ s, eq-eqb (length bs) (bytesFor (formIn bs) (busesIn bs) (branchesIn bs)) (q ∙ bytes-are x e)))
 
   -- ---- the tests after the header's
 
@@ -53,7 +53,7 @@ module _ (bs : List ℕ) (h : Head) (r : HeadRead bs h) where
   branch-scan = firstFault (branchFaultAt bs) (h .branches)
 
   abbrev tail : ℕ
-  tail = field bs (bitsFor (h .buses) (h .branches)) 7
+  tail = field bs (bitsFor (h .form) (h .buses) (h .branches)) 7
 
   abbrev level : Bool
   level = balances (h .buses) (injectionAt bs)
@@ -65,7 +65,7 @@ module _ (bs : List ℕ) (h : Head) (r : HeadRead bs h) where
   branch-is w e = rw (← r .branches-are) e
 
   tail-is : tail ≡ tailIn bs
-  tail-is = rw (r .buses-are, r .branches-are) refl
+  tail-is = rw (r .form-is, r .buses-are, r .branches-are) refl
 
   level-is : (t : Bool) → level ≡ t → balances (busesIn bs) (injectionAt bs) ≡ t
   level-is t e = rw (← r .buses-are) e

@@ -9,7 +9,9 @@ use Rattle.rows.specs.Row.{nth, upTo, headed}
 use Rattle.quantity.specs.Signed.{posPart, negPart}
 use Rattle.quantity.specs.Rating.{limitOf}
 use Rattle.quantity.specs.Inside.{inKw, kwAt}
+use Rattle.layout.specs.declared.Form.{Form}
 use Rattle.layout.specs.declared.Branch.{Branch}
+use Rattle.layout.specs.Form.{fields}
 use Rattle.layout.specs.Book.{Book, buses, count, injection, branch}
 use Rattle.layout.specs.Layout.{branchAfter, injectionAt, tableOf}
 use Rattle.layout.specs.declared.Head.{Head}
@@ -17,9 +19,9 @@ use Rattle.book.specs.declared.BusRows.{BusRows}
 use Rattle.book.specs.declared.BranchRows.{BranchRows}
 use Rattle.book.specs.declared.CaseRows.{CaseRows}
 
--- l with four numbers a branch in its first places, of the branches f 0, f 1, .., f (n - 1), and as it was beyond.
-abbrev pub tabled : ℕ → (ℕ → Branch) → List ℕ → List ℕ
-tabled n f l = tableOf (upTo n f) ++ drop (4 * n) l
+-- l with the numbers of the branches f 0, f 1, .., f (n - 1) in its first places, and as it was beyond.
+abbrev pub tabled : Form → ℕ → (ℕ → Branch) → List ℕ → List ℕ
+tabled form n f l = tableOf form (upTo n f) ++ drop (fields form * n) l
 
 -- Rows filled from the book's fields, and 0 beyond its counts.
 pub record GainsRead (bs : List ℕ) (n : ℕ) (r : BusRows) : Type 0 where
@@ -27,10 +29,10 @@ pub record GainsRead (bs : List ℕ) (n : ℕ) (r : BusRows) : Type 0 where
   pub load-row : r .load ≡ headed n (λ k. negPart (injectionAt bs k)) (replicate 128 0)
 
 pub record BranchesRead (bs : List ℕ) (h : Head) (r : BranchRows) : Type 0 where
-  pub first-row : r .first ≡ headed (h .branches) (λ k. branchAfter (h .buses) bs k .first) (replicate 256 0)
-  pub second-row : r .second ≡ headed (h .branches) (λ k. branchAfter (h .buses) bs k .second) (replicate 256 0)
-  pub served-row : r .served ≡ headed (h .branches) (λ k. eqb (branchAfter (h .buses) bs k .status) 1) (replicate 256 false)
-  pub limit-row : r .limit ≡ headed (h .branches) (λ k. inKw (limitOf (branchAfter (h .buses) bs k .kva .0) (h .factor))) (replicate 256 (inKw 0))
+  pub first-row : r .first ≡ headed (h .branches) (λ k. branchAfter (h .form) (h .buses) bs k .first) (replicate 256 0)
+  pub second-row : r .second ≡ headed (h .branches) (λ k. branchAfter (h .form) (h .buses) bs k .second) (replicate 256 0)
+  pub served-row : r .served ≡ headed (h .branches) (λ k. eqb (branchAfter (h .form) (h .buses) bs k .status) 1) (replicate 256 false)
+  pub limit-row : r .limit ≡ headed (h .branches) (λ k. inKw (limitOf (branchAfter (h .form) (h .buses) bs k .kva .0) (h .factor))) (replicate 256 (inKw 0))
 
 -- The rows of a case hold a book's numbers at every place, and nothing past its counts.
 pub record RowsRead (b : Book) (r : CaseRows) : Type 0 where

@@ -11,21 +11,23 @@ use Rattle.answer.specs.declared.Outcome.the-variants.{Accepted}
 use Rattle.answer.specs.declared.Answer.{Answer}
 use Rattle.answer.specs.Answer.{numberOf, noGroup, Said, refuseIf, andThen, settled}
 use Rattle.bits.specs.Field.{Bytes}
-use Rattle.layout.specs.Layout.{busesIn, branchesIn, bookOf, tableOf}
+use Rattle.layout.specs.Form.{fields}
+use Rattle.layout.specs.Layout.{busesIn, branchesIn, formIn, bookOf, tableOf}
 use Rattle.layout.specs.Check.{checkOf}
 
--- Refusals of the reader: the book's, then 8 where a lent table is too short.
+-- Refusals of the reader: the book's, then 8 where a lent table is too short for the book's form.
 unfoldable pub readCheck : List ℕ → ℕ → ℕ → Outcome
-readCheck bs i j = andThen (checkOf bs) (refuseIf (ltb i (busesIn bs) || ltb j (4 * branchesIn bs)) 8 Accepted)
+readCheck bs i j = andThen (checkOf bs) (refuseIf (ltb i (busesIn bs) || ltb j (fields (formIn bs) * branchesIn bs)) 8 Accepted)
 
 abbrev pub readNumbers : List ℕ
 readNumbers = 1 ∷ 2 ∷ 3 ∷ 4 ∷ 5 ∷ 6 ∷ 7 ∷ 8 ∷ []
 
--- The answer to reading bs into two lent tables, and every number that the tables then hold.
+-- The answer to reading bs into two lent tables, and every number that the tables then hold: four or five a branch, by the book's own form.
 pub record BookRead (bs : List ℕ) (injections injections′ : List ℤ) (branches branches′ : List ℕ) (r : Answer) : Type 0 where
   pub bytes : Bytes bs
   pub answer : Said r (numberOf (readCheck bs (length injections) (length branches))) 0 noGroup
   pub injections-left : injections′
       ≡ settled (readCheck bs (length injections) (length branches)) injections (bookOf bs .injections ++ drop (busesIn bs) injections)
   pub branches-left : branches′
-      ≡ settled (readCheck bs (length injections) (length branches)) branches (tableOf (bookOf bs .branches) ++ drop (4 * branchesIn bs) branches)
+      ≡ settled (readCheck bs (length injections) (length branches)) branches
+      (tableOf (formIn bs) (bookOf bs .branches) ++ drop (fields (formIn bs) * branchesIn bs) branches)

@@ -6,7 +6,8 @@ ghost use Rattle.rows.specs.Row.{headed};
 ghost use Rattle.answer.specs.declared.Outcome.the-variants.{Accepted};
 ghost use Rattle.quantity.specs.Rating.{limitOf};
 ghost use Rattle.layout.specs.Fault.{firstFault};
-ghost use Rattle.layout.specs.Layout.{busesIn, branchAfter, injectionAt, bookOf};
+ghost use Rattle.layout.specs.Form.{fields, branchValues};
+ghost use Rattle.layout.specs.Layout.{busesIn, formIn, branchAfter, injectionAt, bookOf};
 ghost use Rattle.layout.specs.Inside.{HeadRead};
 ghost use Rattle.layout.specs.Check.{balances, busFaultAt, branchFaultAt, headCheck, bodyCheck, checkOf};
 ghost use Rattle.book.specs.Read.{BookRead};
@@ -15,6 +16,7 @@ use answer::Answer;
 use answer::Outcome;
 use layout::Branch;
 use layout::Fault;
+use layout::Form;
 use layout::Head;
 use layout::Sums;
 use quantity::Kw;
@@ -39,14 +41,14 @@ fn check_head(book: &[u8], h: Head) -> Outcome
         return answer::refuse(1);
     }
     let n = h.buses;
-    let m = h.branches;
-    if layout::is_outside(n, m, h.factor) {
+    if layout::is_outside(n, h.branches, h.factor) {
         return answer::refuse(2);
     }
     if h.spare != 0 {
         return answer::refuse(3);
     }
-    if book.len() != layout::bytes_for(n, m) {
+    let form = h.form;
+    if book.len() != layout::bytes_for(form, n, h.branches) {
         return answer::refuse(1);
     }
     Outcome::Accepted
@@ -74,12 +76,12 @@ fn first_bus_fault(book: &[u8], buses: usize) -> Fault
     Fault::Sound
 }
 
-fn first_branch_fault(book: &[u8], buses: usize, branches: usize) -> Fault
-    requires { ⌜ (buses ≡ busesIn (now book)) × (buses ≤ 128) × (branches ≤ 256) ⌝ }
+fn first_branch_fault(book: &[u8], form: Form, buses: usize, branches: usize) -> Fault
+    requires { ⌜ (form ≡ formIn (now book)) × (buses ≡ busesIn (now book)) × (buses ≤ 128) × (branches ≤ 256) ⌝ }
     ensures { λ r. ⌜ r ≡ firstFault (branchFaultAt (now (book .entry))) branches ⌝ }
 {
     for k in 0..branches {
-        let field = layout::branch_fault(buses, layout::branch_at(book, buses, k));
+        let field = layout::branch_fault(form, buses, layout::branch_at(book, form, buses, k));
         if field != 0 {
             return Fault::At { item: k, field };
         }
@@ -107,17 +109,17 @@ fn check_body(book: &[u8], h: Head) -> Outcome
     requires { ⌜ HeadRead (now book) h × (h .buses ≤ 128) × (h .branches ≤ 256) ⌝ }
     ensures { λ r. ⌜ r ≡ bodyCheck (now (book .entry)) ⌝ }
 {
+    let form = h.form;
     let n = h.buses;
-    let m = h.branches;
     let bus = first_bus_fault(book, n);
     if let Fault::At { item: _, field: _ } = bus {
         return answer::refuse(4);
     }
-    let branch = first_branch_fault(book, n, m);
+    let branch = first_branch_fault(book, form, n, h.branches);
     if let Fault::At { item: _, field: _ } = branch {
         return answer::refuse(5);
     }
-    if bits::field(book, layout::branch_place(n, m), 7) != 0 {
+    if bits::field(book, layout::branch_place(form, n, h.branches), 7) != 0 {
         return answer::refuse(6);
     }
     if !is_balanced(book, n) {
@@ -147,21 +149,38 @@ fn fill_injections(book: &[u8], buses: usize, out: &mut [i32])
     }
 }
 
-fn fill_branches(book: &[u8], buses: usize, branches: usize, out: &mut [u32])
-    requires { ⌜ (buses ≤ 128) × (branches ≤ 256) × (4 * branches ≤ length (now out)) ⌝ }
-    ensures { λ _. ⌜ now (out .exit) ≡ tabled branches (branchAfter buses (now (book .entry))) (now (out .entry)) ⌝ }
+// The numbers of a branch, on its stretch of the table: in the new form the second kVA after the first.
+fn fill_row(row: &mut [u32], form: Form, x: Branch)
+    requires { ⌜ length (now row) ≡ fields form ⌝ }
+    ensures { λ _. ⌜ now (row .exit) ≡ branchValues form x ⌝ }
 {
+    row[0] = x.first;
+    row[1] = x.second;
+    row[2] = x.kva.0;
+    let Form::New = form else {
+        row[3] = x.status;
+        return;
+    };
+    row[3] = x.kva2.0;
+    row[4] = x.status;
+}
+
+fn fill_branches(book: &[u8], h: Head, out: &mut [u32])
+    requires { ⌜ (h .buses ≤ 128) × (h .branches ≤ 256) × (fields (h .form) * h .branches ≤ length (now out)) ⌝ }
+    ensures { λ _. ⌜ now (out .exit) ≡ tabled (h .form) (h .branches) (branchAfter (h .form) (h .buses) (now (book .entry))) (now (out .entry)) ⌝ }
+{
+    let form = h.form;
+    let buses = h.buses;
+    let branches = h.branches;
     for k in 0..branches {
-        let x = layout::branch_at(book, buses, k);
-        let at = 4 * k;
-        out[at] = x.first;
-        out[at + 1] = x.second;
-        out[at + 2] = x.kva.0;
-        out[at + 3] = x.status;
+        let x = layout::branch_at(book, form, buses, k);
+        let a = layout::numbers(form, k);
+        let e = a + layout::fields(form);
+        fill_row(&mut out[a..e], form, x);
     }
 }
 
-// The book's injections and four numbers a branch, into two lent tables: refusals 1 to 7, then 8.
+// The book's injections and the numbers of its branches, four or five by its form, into two lent tables: refusals 1 to 7, then 8.
 pub fn read_book(book: &[u8], injections: &mut [i32], branches: &mut [u32]) -> Answer
     ensures { λ r. ⌜ BookRead (now (book .entry)) (now (injections .entry)) (now (injections .exit)) (now (branches .entry)) (now (branches .exit)) r ⌝ }
 {
@@ -170,16 +189,16 @@ pub fn read_book(book: &[u8], injections: &mut [i32], branches: &mut [u32]) -> A
     let Outcome::Accepted = found else {
         return answer::answer_with(found);
     };
+    let form = h.form;
     let n = h.buses;
-    let m = h.branches;
     if injections.len() < n {
         return answer::answer_with(answer::refuse(8));
     }
-    if branches.len() < 4 * m {
+    if branches.len() < layout::numbers(form, h.branches) {
         return answer::answer_with(answer::refuse(8));
     }
     fill_injections(book, n, injections);
-    fill_branches(book, n, m, branches);
+    fill_branches(book, h, branches);
     answer::answer_with(Outcome::Accepted)
 }
 
@@ -223,6 +242,7 @@ fn branch_rows(book: &[u8], h: Head) -> BranchRows
     requires { ⌜ (h .buses ≤ 128) × (h .branches ≤ 256) × (h .factor ≤ 1000) ⌝ }
     ensures { λ r. ⌜ BranchesRead (now (book .entry)) h r ⌝ }
 {
+    let form = h.form;
     let buses = h.buses;
     let branches = h.branches;
     let factor = h.factor;
@@ -231,7 +251,7 @@ fn branch_rows(book: &[u8], h: Head) -> BranchRows
     let mut served = [false; 256];
     let mut limit = [Kw(0); 256];
     for k in 0..branches {
-        let x = layout::branch_at(book, buses, k);
+        let x = layout::branch_at(book, form, buses, k);
         first[k] = x.first as u8;
         second[k] = x.second as u8;
         served[k] = x.status == 1;

@@ -1,4 +1,4 @@
--- What the exported calls promise: those of `screen`, `outage` and `restore`, with the answer in three parts.
+-- What the exported calls promise: those of `screen`, `outage`, `restore` and `forms`, with the answer in three parts.
 use mathlib.Core.List.{List}
 use Prim.Native.Nat.{ℕ}
 use Rattle.answer.specs.Answer.{Said}

@@ -1,5 +1,8 @@
-// The screen, the outage call and the return under C's calling convention, for programs in other languages to link.
+// The screen, the outage call, the return and the move of a book to a form under C's calling convention, for programs in other languages to link.
 // A slice is a pointer and a length; the answer comes back as its number, its shortage and its group.
+ghost use Rattle.answer.specs.Answer.{noGroup};
+ghost use Rattle.layout.specs.Form.{formOf};
+ghost use Rattle.forms.specs.Move.{BookMoved};
 ghost use Rattle.state.specs.Call.{lent};
 ghost use Rattle.screen.specs.Promise.{ScreenEnds};
 ghost use Rattle.outage.specs.Promise.{TakeEnds};
@@ -61,4 +64,14 @@ pub extern "C" fn callable_bring_back(
 {
     let answer = restore::bring_back(book, flow, table, branch);
     tell(answer, shortage, group)
+}
+
+// Form 1 is the new one, as the layout bit has it, and any other number asks for the old one. A move shows neither shortage nor group.
+#[no_mangle]
+pub extern "C" fn callable_move_book(book: &[u8], form: u8, out: &mut [u8]) -> u8
+    ensures { λ r. ⌜ SaidInParts (BookMoved (now (book .entry)) (formOf form) (now (out .entry)) (now (out .exit))) r 0 noGroup ⌝ }
+{
+    let answer = forms::move_book(book, layout::form_of(form as u32), out);
+    let outcome = answer.outcome;
+    answer::number_of(outcome)
 }

@@ -13,10 +13,13 @@ use Rattle.answer.specs.declared.Answer.{Answer}
 use Rattle.answer.proofs.Refusals.{leaves}
 use Rattle.answer.proofs.Said.{said-accepted, said-same}
 use Rattle.answer.proofs.Numbers.{Gives, gives-number, inside, gives-more}
+use Rattle.layout.specs.declared.Form.{Form}
 use Rattle.pack.specs.Write.{writeNumbers, writeCheck, BookWritten}
 use Rattle.pack.proofs.Given.{write-gives, write-answer}
 use Rattle.book.specs.Read.{readNumbers, readCheck, BookRead}
 use Rattle.book.proofs.ReadOnce.{read-gives, read-answer}
+use Rattle.forms.specs.Move.{moveNumbers, moveCheck, BookMoved}
+use Rattle.forms.proofs.Moving.{move-gives, move-answer}
 use Rattle.meters.specs.Registers.{Registers, answerTo}
 use Rattle.meters.specs.Promise.{meterNumbers, Metered}
 use Rattle.meters.proofs.Given.{meter-gives, meter-answer}
@@ -66,11 +69,17 @@ reads {bs} {inj} {inj′} {bra} {bra′} {r} d =
     by-checks readNumbers readNumbers _ (readCheck bs (length inj) (length bra)) r (read-gives bs (length inj) (length bra)) refl (d .answer)
     (λ n. let m = not-bare _ r (read-answer d) n in (d .injections-left ∙ leaves _ inj _ m, d .branches-left ∙ leaves _ bra _ m))
 
-pub writes : {n m factor : ℕ} {inj : List ℤ} {bra out out′ : List ℕ} {r : Answer} → BookWritten n m factor inj bra out out′ r → Answered writeNumbers (out′ ≡ out) r
+pub writes : {f : Form} {n m factor : ℕ} {inj : List ℤ} {bra out out′ : List ℕ} {r : Answer} → BookWritten f n m factor inj bra out out′ r → Answered writeNumbers (out′ ≡ out) r
 unfolding member inside
-writes {n} {m} {factor} {inj} {bra} {out} {out′} {r} d =
-    by-checks writeNumbers writeNumbers _ (writeCheck n m factor inj bra (length out)) r (write-gives n m factor inj bra (length out)) refl (d .answer)
-    (λ h. d .left ∙ leaves _ out _ (not-bare _ r (write-answer n m factor inj bra d) h))
+writes {f} {n} {m} {factor} {inj} {bra} {out} {out′} {r} d =
+    by-checks writeNumbers writeNumbers _ (writeCheck f n m factor inj bra (length out)) r (write-gives f n m factor inj bra (length out)) refl (d .answer)
+    (λ h. d .left ∙ leaves _ out _ (not-bare _ r (write-answer f n m factor inj bra d) h))
+
+pub moves : {bs : List ℕ} {f : Form} {out out′ : List ℕ} {r : Answer} → BookMoved bs f out out′ r → Answered moveNumbers (out′ ≡ out) r
+unfolding member inside
+moves {bs} {f} {out} {out′} {r} d =
+    by-checks moveNumbers moveNumbers _ (moveCheck bs f (length out)) r (move-gives bs f (length out)) refl (d .answer)
+    (λ h. d .left ∙ leaves _ out _ (not-bare _ r (move-answer d) h))
 
 pub meters : {R : Registers} {out out′ : List ℤ} {r : Answer} → Metered R out out′ r → Answered meterNumbers (out′ ≡ out) r
 unfolding member inside

@@ -14,7 +14,7 @@ use Rattle.answer.specs.declared.Outcome.the-variants.{Accepted}
 use Rattle.answer.specs.declared.Answer.{Answer}
 use Rattle.answer.proofs.Said.{said-same}
 use Rattle.bits.specs.Field.{setBit}
-use Rattle.layout.specs.Layout.{busesIn, branchesIn, statusBit}
+use Rattle.layout.specs.Layout.{branchesIn, statusBit}
 use Rattle.layout.specs.Check.{checkOf}
 use Rattle.verdict.specs.Case.{Case, Posed, out, on, leaving, arriving, Fits}
 use Rattle.verdict.specs.Record.{recordAt, verdictIn, Told, is-out, carries, short, Rerouted, TrueTable}
@@ -146,7 +146,7 @@ module _ {now : Lent} (run : Run now) where
       pub posed-out : Posed (out C b)
       posed-out = posed-status C b false run-posed
 
-      module _ {fresh left : Lent} {s : Answer} (without : fresh .book ≡ setBit (now .book) (statusBit (busesIn (now .book)) b) 0) (f : ScreenEnds fresh left s)
+      module _ {fresh left : Lent} {s : Answer} (without : fresh .book ≡ setBit (now .book) (statusBit (now .book) b) 0) (f : ScreenEnds fresh left s)
           (flow-room : branchesIn (now .book) ≤ length (fresh .flow)) (table-room : 52 * branchesIn (now .book) ≤ length (fresh .table)) where
         same-case : caseIn (fresh .book) ≡ out C b
         same-case = rw without (restates (now .book) b 0 (run-stands run .book) there (omega arith) .case-is)

@@ -9,7 +9,7 @@ use Rattle.answer.specs.Answer.{noGroup, Said, accepted}
 use Rattle.answer.specs.declared.Outcome.the-variants.{Accepted}
 use Rattle.answer.specs.declared.Answer.{Answer}
 use Rattle.bits.specs.Field.{OneBit}
-use Rattle.layout.specs.Layout.{busesIn, statusBit}
+use Rattle.layout.specs.Layout.{statusBit}
 use Rattle.book.proofs.StatusSet.{status-set}
 use Rattle.verdict.specs.Case.{Case, out, on, Fits}
 use Rattle.verdict.specs.Excess.{Short}
@@ -62,7 +62,7 @@ module _ {before after : Lent} {b : ℕ} {r : Answer} (e : TakeEnds b before aft
   off-the-list a = take-done e a .took .updated .kept
 
   -- One that clears another bit: the branch's status bit is 0, and every other bit is as it was.
-  pub one-bit-cleared : r ≡ accepted → OneBit (before .book) (after .book) (statusBit (busesIn (before .book)) b) 0
+  pub one-bit-cleared : r ≡ accepted → OneBit (before .book) (after .book) (statusBit (before .book) b) 0
   one-bit-cleared a = let d = take-done e a in status-set (before .book) (after .book) b 0 (d .passes .passes .book) (d .passes .there) (omega arith) (d .took .book-is) .one-bit
 
   -- One that drops the flow and screens afresh, so that flow changed outside the recorded reroute.

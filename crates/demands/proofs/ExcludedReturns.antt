@@ -10,7 +10,7 @@ use Rattle.answer.specs.declared.Outcome.the-variants.{Accepted}
 use Rattle.answer.specs.declared.Answer.{Answer}
 use Rattle.answer.proofs.Refusals.{refusal-stands}
 use Rattle.bits.specs.Field.{OneBit}
-use Rattle.layout.specs.Layout.{busesIn, branchesIn, statusBit, branchAt}
+use Rattle.layout.specs.Layout.{busesIn, branchesIn, formIn, statusBit, branchAt}
 use Rattle.book.proofs.StatusSet.{status-set}
 use Rattle.verdict.specs.Case.{Case, back, on, Fits}
 use Rattle.verdict.specs.Record.{recordAt, verdictIn, TrueRecord}
@@ -48,7 +48,7 @@ module _ {before after : Lent} {b : ℕ} {r : Answer} (e : BackEnds b before aft
     all-rewritten k l n v d = d (return-rewrites e a k l n v)
 
     -- One that sets another bit: the branch's status bit is 1, and every other bit is as it was.
-    pub one-bit-set : OneBit (before .book) (after .book) (statusBit (busesIn (before .book)) b) 1
+    pub one-bit-set : OneBit (before .book) (after .book) (statusBit (before .book) b) 1
     one-bit-set =
         let d = back-done e a in
         status-set (before .book) (after .book) b 1 (d .passes .passes .book) (d .passes .there) (omega arith) (d .brought .book-is) .one-bit
@@ -58,7 +58,7 @@ module _ {before after : Lent} {b : ℕ} {r : Answer} (e : BackEnds b before aft
       → Said r 17 0 noGroup
   seventeen-first p there on-now =
       let bs = before .book in
-      let c = by-status bs (length (before .flow)) (length (before .table)) b 1 17 (passing _ _ _ p) there (branchAt bs b) (busesIn bs) refl refl
+      let c = by-status bs (length (before .flow)) (length (before .table)) b 1 17 (passing _ _ _ p) there (branchAt bs b) (formIn bs) (busesIn bs) refl refl refl
       (served-status bs b there on-now) in
       subst (λ (o : Outcome). Said r (numberOf o) 0 noGroup) (sym c) (call-first e (λ q. refusal-stands 17 (c ∙ q)))
 

@@ -13,3 +13,5 @@ pub mod UniqueCallable
 pub mod Excluded
 pub mod ExcludedReturns
 pub mod RoundTrips
+pub mod Moves
+pub mod KeepsForm

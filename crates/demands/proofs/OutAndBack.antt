@@ -10,9 +10,9 @@ use Rattle.answer.specs.Answer.{accepted}
 use Rattle.answer.specs.declared.Answer.{Answer}
 use Rattle.bits.specs.Field.{setBit}
 use Rattle.bits.proofs.Again.{set-bit-again}
-use Rattle.layout.specs.Layout.{busesIn, branchesIn, statusBit}
+use Rattle.layout.specs.Layout.{branchesIn, statusBit}
 use Rattle.layout.proofs.AcceptedWhere.{accepted-valid}
-use Rattle.layout.proofs.StatusChanged.{buses-kept, count-kept}
+use Rattle.layout.proofs.StatusChanged.{bit-kept, count-kept}
 use Rattle.verdict.specs.Case.{Case}
 use Rattle.verdict.specs.Record.{recordAt, TrueTable}
 use Rattle.verdict.specs.Update.{Lent}
@@ -36,15 +36,15 @@ pub record OutAndBack (before after : Lent) (s : Answer) : Type 0 where
       → nth (recordAt (after .table) k) j ≡ nth (recordAt (before .table) k) j
 
 -- The bit cleared and set again, by the books that the two calls leave.
-book-again : {before mid : Lent} {after : List ℕ} {b : ℕ} → TakeDone b before mid → after ≡ setBit (mid .book) (statusBit (busesIn (mid .book)) b) 1
+book-again : {before mid : Lent} {after : List ℕ} {b : ℕ} → TakeDone b before mid → after ≡ setBit (mid .book) (statusBit (mid .book) b) 1
     → after ≡ before .book
 book-again {before} {mid} {after} {b} d e =
     let bs = before .book in
-    let at = statusBit (busesIn bs) b in
-    let n = buses-kept bs b 0 (omega arith) (d .passes .there) (accepted-valid bs (d .passes .passes .book) .exact) in
+    let at = statusBit bs b in
+    let n = bit-kept bs b 0 (omega arith) (d .passes .there) (accepted-valid bs (d .passes .passes .book) .exact) b in
     e
-    ∙ ap (λ (x : List ℕ). setBit x (statusBit (busesIn x) b) 1) (d .took .book-is)
-    ∙ ap (λ (m : ℕ). setBit (setBit bs at 0) (statusBit m b) 1) n
+    ∙ ap (λ (x : List ℕ). setBit x (statusBit x b) 1) (d .took .book-is)
+    ∙ ap (λ (i : ℕ). setBit (setBit bs at 0) i 1) n
     ∙ set-bit-again bs at 0 1 (omega arith) (served-bit bs b (d .passes .there) (d .passes .in-service))
 
 -- From any true table.

@@ -9,7 +9,7 @@ use Rattle.rows.specs.Row.{nth}
 use Rattle.answer.specs.Answer.{accepted}
 use Rattle.answer.specs.declared.Answer.{Answer}
 use Rattle.bits.specs.Field.{setBit}
-use Rattle.layout.specs.Layout.{busesIn, branchesIn, statusBit}
+use Rattle.layout.specs.Layout.{branchesIn, statusBit}
 use Rattle.verdict.specs.Case.{Case}
 use Rattle.verdict.specs.Record.{recordAt, verdictIn}
 use Rattle.verdict.specs.Update.{Lent}
@@ -64,7 +64,7 @@ module _ {now : Lent} (run : Run now) {after : Lent} {b : ℕ} {r : Answer} (e :
     return-joins = returned b run e a
 
     -- ---- Every verdict, shortage and group equals that of any fresh screen of the book with the branch in service.
-    module _ {fresh left : Lent} {s : Answer} (with-it : fresh .book ≡ setBit (now .book) (statusBit (busesIn (now .book)) b) 1)
+    module _ {fresh left : Lent} {s : Answer} (with-it : fresh .book ≡ setBit (now .book) (statusBit (now .book) b) 1)
         (f : ScreenEnds fresh left s) where
       same-book : fresh .book ≡ after .book
       same-book = with-it ∙ sym (back-done e a .brought .book-is)

@@ -8,6 +8,10 @@ use Rattle.verdict.specs.Update.{Lent}
 use Rattle.screen.specs.Promise.{ScreenEnds}
 use Rattle.outage.specs.Promise.{TakeEnds}
 use Rattle.restore.specs.Promise.{BackEnds}
+use Rattle.layout.specs.declared.Form.{Form}
+use Rattle.pack.proofs.WrittenOnce.{SameWritten}
+use Rattle.forms.specs.Move.{BookMoved}
+use Rattle.forms.proofs.MovedBook.{moved-once}
 use Rattle.callable.specs.Promise.{SaidInParts}
 use Rattle.demands.specs.Same.{FreeFlow, SameResult}
 use Rattle.demands.proofs.Unique.{Each, screens-same}
@@ -51,3 +55,8 @@ module _ {before one two : Lent} {n v m w : ℕ} {g h : List ℕ} where
   pub callable-backs : (b : ℕ) → SaidInParts (BackEnds b before one) n v g → SaidInParts (BackEnds b before two) m w h
       → SameParts (SameReturn before b one two) n v g m w h
   callable-backs b = parts-same _ (λ r s x y. returns-same x y) (λ r s x. x .same .answers)
+
+pub callable-moves : {bs : List ℕ} {f : Form} {out o o′ : List ℕ} {n v m w : ℕ} {g h : List ℕ} → SaidInParts (BookMoved bs f out o) n v g
+    → SaidInParts (BookMoved bs f out o′) m w h
+    → SameParts (λ r s. SameWritten r s o o′) n v g m w h
+callable-moves = parts-same _ (λ r s x y. moved-once x y) (λ r s x. x .answers)

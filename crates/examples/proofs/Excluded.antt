@@ -14,6 +14,7 @@ use Rattle.answer.specs.declared.Outcome.the-variants.{Accepted}
 use Rattle.answer.specs.declared.Answer.{Answer}
 use Rattle.grid.proofs.Tests.{_&_}
 use Rattle.quantity.specs.Signed.{posPart}
+use Rattle.layout.specs.declared.Form.the-variants.{Old}
 use Rattle.layout.specs.Book.{Book}
 use Rattle.layout.specs.Fault.{branchFault}
 use Rattle.layout.specs.Layout.{encode}
@@ -40,7 +41,7 @@ use Rattle.examples.proofs.Tests.{wellTest, well-sound}
 use Rattle.examples.proofs.Marked.{row-in, marked-examples}
 
 abbrev T : Book
-T = triangle 1000 30 1 1
+T = triangle Old 1000 30 1 1
 
 -- Byte 0 from the first twenty.
 first-byte : (rec bytes : List ℕ) → take 20 rec ≡ bytes → verdictIn rec ≡ nth bytes 0
@@ -51,15 +52,15 @@ module _ {flow : List ℤ} {table : List ℕ} {after : Lent} {r : Answer} where
   -- One that refuses every book with 12.
   pub all-refused : 3 ≤ length flow → 156 ≤ length table → ScreenEnds (lent (encode T) flow table) after r → numberOf (r .outcome) ≡ 12 → ⊥
   all-refused l m e n =
-      let s : Shows T (carries ∷ carries ∷ carries ∷ []) (lent (encode T) flow table) after r = marked-examples _ (row-in markedRows 0 (omega arith)) flow table after r l m e in
+      let s : Shows T (carries ∷ carries ∷ carries ∷ []) (lent (encode T) flow table) after r = marked-examples Old _ (row-in (markedRows Old) 0 (omega arith)) flow table after r l m e in
       omega (arith, s .answer .number-is)
 
   -- One that calls every branch carrying.
-  pub all-carrying : 4 ≤ length flow → 208 ≤ length table → ScreenEnds (lent (encode (second 25)) flow table) after r → verdictIn (recordAt (after .table) 0) ≡ 1 → ⊥
+  pub all-carrying : 4 ≤ length flow → 208 ≤ length table → ScreenEnds (lent (encode (second Old 25)) flow table) after r → verdictIn (recordAt (after .table) 0) ≡ 1 → ⊥
   unfolding sightBytes recordBytes
   all-carrying l m e v =
-      let s : Shows (second 25) (short 20 (0 ∷ []) ∷ short 35 (0 ∷ 1 ∷ []) ∷ short 20 (0 ∷ 1 ∷ []) ∷ short 20 (0 ∷ 1 ∷ 2 ∷ []) ∷ []) (lent (encode (second 25)) flow table) after r =
-      marked-examples _ (row-in markedRows 7 (omega arith)) flow table after r l m e in
+      let s : Shows (second Old 25) (short 20 (0 ∷ []) ∷ short 35 (0 ∷ 1 ∷ []) ∷ short 20 (0 ∷ 1 ∷ []) ∷ short 20 (0 ∷ 1 ∷ 2 ∷ []) ∷ []) (lent (encode (second Old 25)) flow table) after r =
+      marked-examples Old _ (row-in (markedRows Old) 7 (omega arith)) flow table after r l m e in
       omega (arith, first-byte (recordAt (after .table) 0) _ (s .records 0 (omega arith)))
 
 -- ---- Calls: branch 0 of the triangle, on what a run left.
@@ -77,8 +78,8 @@ module _ {flow : List ℤ} {table : List ℕ} {after : Lent} {r : Answer} where
   unfolding sightBytes recordBytes
   table-left run e same =
       let w = well-sound T well-T in
-      let t : Takes T (triangle 1000 30 0 1) (out ∷ short 30 (0 ∷ []) ∷ short 10 (0 ∷ 2 ∷ []) ∷ []) (lent (encode T) flow table) after r =
-      marked-examples _ (row-in markedRows 2 (omega arith)) flow table after r run e in
+      let t : Takes T (triangle Old 1000 30 0 1) (out ∷ short 30 (0 ∷ []) ∷ short 10 (0 ∷ 2 ∷ []) ∷ []) (lent (encode T) flow table) after r =
+      marked-examples Old _ (row-in (markedRows Old) 2 (omega arith)) flow table after r run e in
       let anew : verdictIn (recordAt (after .table) 0) ≡ 0 = first-byte (recordAt (after .table) 0) _ (t .records 0 (omega arith)) in
       let zero-byte : verdictIn (recordAt table 0) ≡ 0 = ap (λ (x : List ℕ). verdictIn (recordAt x 0)) (sym same) ∙ anew in
       let off = out-exactly _ (run-posed run) (on flow) 0 (recordAt table 0) (run-true run .each 0 (omega (arith, branches-of (encode T), count-encode T w))) .0 zero-byte in
@@ -87,7 +88,7 @@ module _ {flow : List ℤ} {table : List ℕ} {after : Lent} {r : Answer} where
 -- ---- Calls on one flow, whatever was done before.
 -- The triangle with branch 0 out, and a lent flow that is 0 everywhere: it doesn't fit, and without branch 1 the book is short 30.
 abbrev Open : Book
-Open = triangle 1000 30 0 1
+Open = triangle Old 1000 30 0 1
 
 abbrev still : List ℤ
 still = pos 0 ∷ pos 0 ∷ pos 0 ∷ []
@@ -124,6 +125,7 @@ module _ {table : List ℕ} {after : Lent} {r : Answer} where
 -- Three branches side by side carry 10 over the first; its record names the second alone.
 abbrev Abreast : Book
 Abreast = record {
+  form = Old;
   factor = 1000;
   injections = pos 10 ∷ minus 10 ∷ [];
   branches = joins 0 1 10 1 ∷ joins 0 1 10 1 ∷ joins 0 1 10 1 ∷ [];

@@ -16,16 +16,17 @@ use Rattle.answer.specs.declared.Outcome.the-variants.{Accepted}
 use Rattle.answer.specs.declared.Answer.{Answer}
 use Rattle.rows.proofs.Row.{every-at}
 use Rattle.answer.proofs.Said.{said-overloaded}
-use Rattle.bits.specs.Field.{withBit, setBit, put}
-use Rattle.bits.specs.Fields.{putItems}
+use Rattle.bits.specs.Field.{withBit, setBit}
 use Rattle.grid.proofs.Tests.{_&_, _⇒_, and-left, and-right, everyGroup}
 use Rattle.grid.proofs.Trial.{mostTest, smallestTest}
-use Rattle.layout.specs.Book as its
-use Rattle.layout.specs.Book.{Book, count, WellFormed}
+use Rattle.layout.specs.declared.Form.{Form}
+use Rattle.layout.specs.declared.Form.the-variants.{Old}
+use Rattle.layout.specs.Book.{Book, count, withStatus, inForm, WellFormed}
 use Rattle.layout.specs.Fault.{branchFault}
-use Rattle.layout.specs.Layout.{statusBit, packed, encode}
+use Rattle.layout.specs.Layout.{encode}
 use Rattle.layout.proofs.AcceptedWhere.{valid-accepted}
-use Rattle.layout.proofs.DecodeEncode.{buses-encode, count-encode, valid-encode, book-encode}
+use Rattle.layout.proofs.DecodeEncode.{count-encode, valid-encode, book-encode}
+use Rattle.layout.proofs.StatusChanged.{encode-status}
 use Rattle.verdict.specs.Case.{Case, Posed, out, on}
 use Rattle.verdict.specs.Record.{recordAt, TrueTable}
 use Rattle.verdict.proofs.Fitting.{posed-status}
@@ -47,7 +48,7 @@ use Rattle.demands.proofs.Demand3.{run-true, run-posed, run-fits, call-checked}
 use Rattle.examples.specs.Row as row
 use Rattle.examples.specs.Row.{Sight, groupBytes, sightBytes, Row, shows, takes, keeps, meters, Shows, Refuses, Takes, Holds}
 use Rattle.examples.specs.Table.{triangle, markedRows}
-use Rattle.examples.proofs.Tests.{wellTest, well-sound, sameRows, sameNumbers, same-sound, sameBytes, bytes-sound, long-group, bytes-group, insideTest, overloadTest, overload-sound, noExcessTest, no-excess-sound, sightTest, sight-sound}
+use Rattle.examples.proofs.Tests.{wellTest, well-sound, sameRows, sameNumbers, same-sound, sameBooks, books-sound, long-group, bytes-group, insideTest, overloadTest, overload-sound, noExcessTest, no-excess-sound, sightTest, sight-sound}
 
 unfoldable pub rowTest : Row → Bool
 rowTest (shows b sights) =
@@ -58,7 +59,7 @@ rowTest (shows b sights) =
 rowTest (row.refuses b v group) = wellTest b & overloadTest (caseOf b) v group
 rowTest (takes b k d sights) =
     wellTest b
-    & (sameBytes (setBit (encode b) (statusBit (its.buses b) k) 0) (encode d)
+    & (sameBooks (withStatus b k 0) d
     & (ltb k (count b)
     & (caseOf b .served k
     & (noExcessTest (out (caseOf b) k)
@@ -144,7 +145,7 @@ module _ (b : Book) (w : WellFormed b) (k : ℕ) (there : k < count b) (in-servi
   true-less : TakenOut k (lent (encode b) flow table) after → TrueTable (out (caseOf b) k) (after .flow) (after .table)
   true-less o = subst (λ (x : Book). TrueTable (out (caseOf x) k) (after .flow) (after .table)) (book-encode b w) (call-true (run-posed run) o (run-true run))
 
-  takes-all : (d : Book) (sights : List Sight) → setBit (encode b) (statusBit (its.buses b) k) 0 ≡ encode d → noExcessTest (out (caseOf b) k) ≡ true → eqb (length sights) (count b) ≡ true
+  takes-all : (d : Book) (sights : List Sight) → withStatus b k 0 ≡ inForm (b .form) d → noExcessTest (out (caseOf b) k) ≡ true → eqb (length sights) (count b) ≡ true
       → every (count b) (λ j. sightTest (out (caseOf b) k) j (getD sights j row.out)) ≡ true → Takes b d sights (lent (encode b) flow table) after r
   takes-all d sights left n l t = go e
     where
@@ -156,7 +157,7 @@ module _ (b : Book) (w : WellFormed b) (k : ℕ) (there : k < count b) (in-servi
           absurd (never-overload (out (caseOf b) k) (o′ .shortage) (has (o′ .group)) (no-excess-sound (out (caseOf b) k) posed-less n) (o′ .overload))
       go (call.accepts c f a o) = record {
         answer = a;
-        book-is = subst (λ (m : ℕ). after .book ≡ setBit (encode b) (statusBit m k) 0) (buses-encode b w) (o .book-is) ∙ left;
+        book-is = o .book-is ∙ encode-status b w k 0 there (omega arith) ∙ ap encode left;
         one-each = eqb-true _ _ l;
         records = λ j u. record-shows (out (caseOf b) k) (after .flow) (after .table) j (getD sights j row.out) posed-less (true-less o) (count-in b j u)
             (every-at (λ j. sightTest (out (caseOf b) k) j (getD sights j row.out)) (count b) t j u);
@@ -190,7 +191,7 @@ row-sound (takes b k d sights) t =
     let t₃ = and-right _ _ t₂ in
     let t₄ = and-right _ _ t₃ in
     λ flow table after r run e.
-    takes-all b (well-sound b (and-left _ _ t)) k (ltb-true _ _ (and-left _ _ t₁)) (and-left _ _ t₂) run e d sights (bytes-sound _ _ (and-left _ _ t₀)) (and-left _ _ t₃) (and-left _ _ t₄) (and-right _ _ t₄)
+    takes-all b (well-sound b (and-left _ _ t)) k (ltb-true _ _ (and-left _ _ t₁)) (and-left _ _ t₂) run e d sights (books-sound (withStatus b k 0) d (and-left _ _ t₀)) (and-left _ _ t₃) (and-left _ _ t₄) (and-right _ _ t₄)
 row-sound (keeps b k v group) t =
     let t₁ = and-right _ _ t in
     let t₂ = and-right _ _ t₁ in
@@ -209,26 +210,25 @@ unfolding rowsTest
 rows-sound (y ∷ ys) t x (List·Memᴰ·head e) = subst Holds (sym e) (row-sound y (and-left _ _ t))
 rows-sound (y ∷ ys) t x (List·Memᴰ·tail m) = rows-sound ys (and-right _ _ t) x m
 
-pub row-in : (xs : List Row) (k : ℕ) → k < length xs → List·Memᴰ (getD xs k (shows (triangle 1000 30 1 1) [])) xs
+pub row-in : (xs : List Row) (k : ℕ) → k < length xs → List·Memᴰ (getD xs k (shows (triangle Old 1000 30 1 1) [])) xs
 row-in [] k u = absurd (omega arith)
 row-in (x ∷ xs) zero u = List·Memᴰ·head refl
 row-in (x ∷ xs) (suc k) u = List·Memᴰ·tail (row-in xs k (omega arith))
 
--- Every row of the table holds.
-pub marked-examples : (x : Row) → List·Memᴰ x markedRows → Holds x
+-- Every row of the table holds, in either form: no test looks at it.
+pub marked-examples : (f : Form) (x : Row) → List·Memᴰ x (markedRows f) → Holds x
 unfolding rowsTest rowTest _&_ _⇒_ every some upTo over sum bitAt withBit setBit everyGroup mostTest smallestTest branchFault caseOf tooFar answerTo groupBytes
-    encode packed putItems put
-    wellTest sameRows insideTest overloadTest noExcessTest sightTest
-marked-examples = rows-sound markedRows refl
+    wellTest sameRows sameBooks insideTest overloadTest noExcessTest sightTest
+marked-examples f = rows-sound (markedRows f) refl
 
 -- (c) after (b): taking branch 1 out of what the outage of branch 0 left is refused.
-pub c-after-b : (flow : List ℤ) (table : List ℕ) (mid after : Lent) (r s : Answer) → Run (lent (encode (triangle 1000 30 1 1)) flow table)
-    → TakeEnds 0 (lent (encode (triangle 1000 30 1 1)) flow table) mid r → TakeEnds 1 mid after s → Refuses 30 (0 ∷ []) mid after s
-c-after-b flow table mid after r s run e f =
-    let t = marked-examples _ (row-in markedRows 2 (omega arith)) flow table mid r run e in
-    let c = marked-examples _ (row-in markedRows 4 (omega arith)) in
-    let q : mid ≡ lent (encode (triangle 1000 30 0 1)) (mid .flow) (mid .table) = ap (λ (bs : List ℕ). lent bs (mid .flow) (mid .table)) (t .book-is) in
+pub c-after-b : (f : Form) (flow : List ℤ) (table : List ℕ) (mid after : Lent) (r s : Answer) → Run (lent (encode (triangle f 1000 30 1 1)) flow table)
+    → TakeEnds 0 (lent (encode (triangle f 1000 30 1 1)) flow table) mid r → TakeEnds 1 mid after s → Refuses 30 (0 ∷ []) mid after s
+c-after-b f flow table mid after r s run e g =
+    let t = marked-examples f _ (row-in (markedRows f) 2 (omega arith)) flow table mid r run e in
+    let c = marked-examples f _ (row-in (markedRows f) 4 (omega arith)) in
+    let q : mid ≡ lent (encode (triangle f 1000 30 0 1)) (mid .flow) (mid .table) = ap (λ (bs : List ℕ). lent bs (mid .flow) (mid .table)) (t .book-is) in
     let run′ : Run mid = taken 0 run e (is-accepted (t .answer)) in
     subst (λ (l : Lent). TakeEnds 1 l after s → Refuses 30 (0 ∷ []) l after s) (sym q)
     (c (mid .flow) (mid .table) after s (subst Run q run′))
-    f
+    g

@@ -1,6 +1,6 @@
 -- Computed tests of a row, and what each gives.
 use mathlib.Core.Path.{_≡_, refl, sym, ap, ap₂, _∙_, fun-ext}
-use mathlib.Core.Bool.{Bool, true, false, not, true≢false}
+use mathlib.Core.Bool.{Bool, true, false, not, _||_, true≢false}
 use mathlib.Core.List.{List, [], _∷_, append-nil}
 use Prim.Native.Nat.{ℕ, zero, suc, _+_, _-_, _≤_, _<_}
 use native.Mathlib.Omega.{arith}
@@ -21,7 +21,11 @@ use Rattle.bits.proofs.ReadAsPut.{length-setBit, bytes-setBit, bytes-zeros}
 use Rattle.grid.proofs.Without.{ends-without}
 use Rattle.grid.proofs.Tests.{_&_, _⇒_, and-left, and-right, imply}
 use Rattle.grid.proofs.Trial.{any-decided, crosses-decided, mostTest, most-sound, smallestTest, smallest-sound}
-use Rattle.layout.specs.Book.{Book, buses, count, injection, branch, size, WellFormed}
+use Rattle.quantity.specs.Rating.{inKva}
+use Rattle.layout.specs.declared.Form.{Form}
+use Rattle.layout.specs.declared.Form.the-variants.{Old, New}
+use Rattle.layout.specs.declared.Branch.{Branch}
+use Rattle.layout.specs.Book.{Book, buses, count, injection, branch, inForm, size, WellFormed}
 use Rattle.layout.specs.Fault.{branchFault}
 use Rattle.layout.specs.Check.{outside, balances}
 use Rattle.layout.proofs.Faults.{sound-branch}
@@ -40,18 +44,29 @@ use Rattle.state.proofs.TrueRecords.{none, none-at, clipped}
 use Rattle.examples.specs.Row.{Sight, out, carries, short, groupBytes, sightBytes}
 
 -- ---- A well-formed book.
+abbrev isNew : Form → Bool
+isNew Old = false
+isNew New = true
+
+by-old : (a : Bool) (f : Form) → f ≡ Old → a || isNew f ≡ true → a ≡ true
+by-old true f e t = refl
+by-old false Old e t = t
+by-old false New e t = let z : _≡_ {A = ℕ} 0 1 = cc in absurd (omega arith)
+
 unfoldable pub wellTest : Book → Bool
 wellTest b =
     not (outside (buses b) (count b) (b .factor))
     & (every (buses b) (λ k. leb (size (injection b k)) 1000000)
-    & (every (count b) (λ k. eqb (branchFault (buses b) (branch b k)) 0)
-    & balances (buses b) (injection b)))
+    & (every (count b) (λ k. eqb (branchFault (b .form) (buses b) (branch b k)) 0)
+    & ((every (count b) (λ k. eqb (branch b k .kva2 .0) (branch b k .kva .0)) || isNew (b .form))
+    & balances (buses b) (injection b))))
 
 pub well-sound : (b : Book) → wellTest b ≡ true → WellFormed b
 unfolding wellTest
 well-sound b t =
     let t₁ = and-right _ _ t in
     let t₂ = and-right _ _ t₁ in
+    let t₃ = and-right _ _ t₂ in
     let r = in-range (buses b) (count b) (b .factor) (not-true _ (and-left _ _ t)) in
     record {
       some-bus = r .some-bus;
@@ -60,8 +75,11 @@ well-sound b t =
       some-factor = r .some-factor;
       small-factor = r .small-factor;
       sizes = λ k u. leb-true _ _ (every-at _ (buses b) (and-left _ _ t₁) k u);
-      good = λ k u. sound-branch (buses b) (branch b k) (eqb-true _ _ (every-at _ (count b) (and-left _ _ t₂) k u));
-      balanced = balance-sum (buses b) (injection b) (eqb-true _ _ (and-right _ _ t₂));
+      good = λ k u. sound-branch (b .form) (buses b) (branch b k) (eqb-true _ _ (every-at _ (count b) (and-left _ _ t₂) k u));
+      one-figure = λ e k u.
+          let z = eqb-true _ _ (every-at (λ k. eqb (branch b k .kva2 .0) (branch b k .kva .0)) (count b) (by-old _ (b .form) e (and-left _ _ t₃)) k u) in
+          λ i. inKva (z i);
+      balanced = balance-sum (buses b) (injection b) (eqb-true _ _ (and-right _ _ t₃));
     }
 
 -- ---- Signed numbers.
@@ -84,11 +102,34 @@ sameNumbers xs ys = sameRows (λ x y. eqb (posPart x + negPart y) (negPart x + p
 pub same-sound : (xs ys : List ℤ) → sameNumbers xs ys ≡ true → xs ≡ ys
 same-sound = rows-same _ (λ x y t. by-parts x y (eqb-true _ _ t))
 
-abbrev pub sameBytes : List ℕ → List ℕ → Bool
-sameBytes xs ys = sameRows eqb xs ys
+-- ---- Books that say the same, but for their form.
+abbrev sameBranch : Branch → Branch → Bool
+sameBranch x y =
+    eqb (x .first) (y .first) & (eqb (x .second) (y .second) & (eqb (x .kva .0) (y .kva .0) & (eqb (x .kva2 .0) (y .kva2 .0) & eqb (x .status) (y .status))))
 
-pub bytes-sound : (xs ys : List ℕ) → sameBytes xs ys ≡ true → xs ≡ ys
-bytes-sound = rows-same _ (λ x y t. eqb-true x y t)
+branch-same : (x y : Branch) → sameBranch x y ≡ true → x ≡ y
+branch-same x y t =
+    let t₁ = and-right _ _ t in
+    let t₂ = and-right _ _ t₁ in
+    let t₃ = and-right _ _ t₂ in
+    let e₁ = eqb-true _ _ (and-left _ _ t) in
+    let e₂ = eqb-true _ _ (and-left _ _ t₁) in
+    let e₃ = eqb-true _ _ (and-left _ _ t₂) in
+    let e₄ = eqb-true _ _ (and-left _ _ t₃) in
+    let e₅ = eqb-true _ _ (and-right _ _ t₃) in
+    λ i. record { first = e₁ i; second = e₂ i; kva = inKva (e₃ i); kva2 = inKva (e₄ i); status = e₅ i }
+
+unfoldable pub sameBooks : Book → Book → Bool
+sameBooks b d = eqb (b .factor) (d .factor) & (sameNumbers (b .injections) (d .injections) & sameRows sameBranch (b .branches) (d .branches))
+
+pub books-sound : (b d : Book) → sameBooks b d ≡ true → b ≡ inForm (b .form) d
+unfolding sameBooks
+books-sound b d t =
+    let t₁ = and-right _ _ t in
+    let e₁ = eqb-true _ _ (and-left _ _ t) in
+    let e₂ = same-sound _ _ (and-left _ _ t₁) in
+    let e₃ = rows-same sameBranch branch-same _ _ (and-right _ _ t₁) in
+    λ i. record { form = b .form; factor = e₁ i; injections = e₂ i; branches = e₃ i }
 
 -- ---- The bytes of a group.
 pub long-group : (g : List ℕ) → length (groupBytes g) ≡ 16

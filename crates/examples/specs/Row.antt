@@ -7,7 +7,7 @@ use lib.ListN.{length, getD, take}
 use Rattle.answer.specs.Answer.{Said, noGroup}
 use Rattle.answer.specs.declared.Answer.{Answer}
 use Rattle.bits.specs.Field.{setBit}
-use Rattle.layout.specs.Book.{Book, count}
+use Rattle.layout.specs.Book.{Book, count, inForm}
 use Rattle.layout.specs.Layout.{encode}
 use Rattle.verdict.specs.Record.{recordAt}
 use Rattle.verdict.specs.Update.{Lent, Beyond}
@@ -58,10 +58,10 @@ pub record Refuses (v : ℕ) (group : List ℕ) (before after : Lent) (r : Answe
   pub answer : Said r 12 v (groupBytes group)
   pub kept : after ≡ before
 
--- What a call that makes the book B the book D then leaves.
+-- What a call that makes the book B the book D, in the form of B, then leaves.
 pub record Takes (B D : Book) (sights : List Sight) (before after : Lent) (r : Answer) : Type 0 where
   pub answer : Said r 0 0 noGroup
-  pub book-is : after .book ≡ encode D
+  pub book-is : after .book ≡ encode (inForm (B .form) D)
   pub one-each : length sights ≡ count B
   pub records : (k : ℕ) → k < count B → take 20 (recordAt (after .table) k) ≡ sightBytes (getD sights k out)
 

@@ -1,8 +1,9 @@
--- Document 01's marked examples (a) to (l), and two of our own.
+-- Document 01's marked examples (a) to (l), and two of our own, in either form.
 use mathlib.Core.List.{List, [], _∷_}
 use Prim.Native.Nat.{ℕ}
 use lib.IntN.{ℤ, pos, negℤ}
 use Rattle.quantity.specs.Rating.{inKva}
+use Rattle.layout.specs.declared.Form.{Form}
 use Rattle.layout.specs.declared.Branch.{Branch}
 use Rattle.layout.specs.Book.{Book}
 use Rattle.meters.specs.Registers.{registers}
@@ -11,60 +12,64 @@ use Rattle.examples.specs.Row.{out, carries, short, Row, shows, refuses,
 abbrev pub minus : ℕ → ℤ
 minus n = negℤ (pos n)
 
+-- Both ratings are equal, so that the book can be in either form.
 abbrev pub joins : ℕ → ℕ → ℕ → ℕ → Branch
-joins first second kva status = record { first = first; second = second; kva = inKva kva; status = status }
+joins first second kva status = record { first = first; second = second; kva = inKva kva; kva2 = inKva kva; status = status }
 
 -- The triangle: its power factor, the kVA of 1-2, the status of branches 0 and 1.
-abbrev pub triangle : ℕ → ℕ → ℕ → ℕ → Book
-triangle factor kva s₀ s₁ = record {
+abbrev pub triangle : Form → ℕ → ℕ → ℕ → ℕ → Book
+triangle f factor kva s₀ s₁ = record {
+  form = f;
   factor = factor;
   injections = pos 30 ∷ minus 10 ∷ minus 20 ∷ [];
   branches = joins 0 1 40 s₀ ∷ joins 0 2 40 s₁ ∷ joins 1 2 kva 1 ∷ [];
 }
 
 -- The second book, with the kVA of 1-2.
-abbrev pub second : ℕ → Book
-second kva = record {
+abbrev pub second : Form → ℕ → Book
+second f kva = record {
+  form = f;
   factor = 1000;
   injections = pos 60 ∷ pos 0 ∷ minus 40 ∷ minus 20 ∷ [];
   branches = joins 0 1 40 1 ∷ joins 0 2 40 1 ∷ joins 1 2 kva 1 ∷ joins 2 3 30 1 ∷ [];
 }
 
-abbrev single : Book
-single = record { factor = 1000; injections = pos 0 ∷ []; branches = [] }
+abbrev single : Form → Book
+single f = record { form = f; factor = 1000; injections = pos 0 ∷ []; branches = [] }
 
-abbrev tie : Book
-tie = record {
+abbrev tie : Form → Book
+tie f = record {
+  form = f;
   factor = 1000;
   injections = pos 5 ∷ pos 0 ∷ minus 5 ∷ [];
   branches = joins 0 2 5 1 ∷ joins 0 1 3 1 ∷ joins 1 2 3 1 ∷ [];
 }
 
-abbrev pub markedRows : List Row
-markedRows =
+abbrev pub markedRows : Form → List Row
+markedRows f =
     -- (a) all carry
-    shows (triangle 1000 30 1 1) (carries ∷ carries ∷ carries ∷ [])
+    shows (triangle f 1000 30 1 1) (carries ∷ carries ∷ carries ∷ [])
     -- (b) branch 0 out, screened and through the call, which leaves the book that (c) starts from
-    ∷ shows (triangle 1000 30 0 1) (out ∷ short 30 (0 ∷ []) ∷ short 10 (0 ∷ 2 ∷ []) ∷ [])
-    ∷ takes (triangle 1000 30 1 1) 0 (triangle 1000 30 0 1) (out ∷ short 30 (0 ∷ []) ∷ short 10 (0 ∷ 2 ∷ []) ∷ [])
+    ∷ shows (triangle f 1000 30 0 1) (out ∷ short 30 (0 ∷ []) ∷ short 10 (0 ∷ 2 ∷ []) ∷ [])
+    ∷ takes (triangle f 1000 30 1 1) 0 (triangle f 1000 30 0 1) (out ∷ short 30 (0 ∷ []) ∷ short 10 (0 ∷ 2 ∷ []) ∷ [])
     -- (c) then branch 1, likewise
-    ∷ refuses (triangle 1000 30 0 0) 30 (0 ∷ [])
-    ∷ keeps (triangle 1000 30 0 1) 1 30 (0 ∷ [])
+    ∷ refuses (triangle f 1000 30 0 0) 30 (0 ∷ [])
+    ∷ keeps (triangle f 1000 30 0 1) 1 30 (0 ∷ [])
     -- (d) 1-2 at 20: branch 1 carries
-    ∷ shows (triangle 1000 20 1 1) (carries ∷ carries ∷ carries ∷ [])
+    ∷ shows (triangle f 1000 20 1 1) (carries ∷ carries ∷ carries ∷ [])
     -- (e) at 19
-    ∷ shows (triangle 1000 19 1 1) (carries ∷ short 1 (0 ∷ 1 ∷ []) ∷ carries ∷ [])
+    ∷ shows (triangle f 1000 19 1 1) (carries ∷ short 1 (0 ∷ 1 ∷ []) ∷ carries ∷ [])
     -- (f) to (i) the second book's four lines
-    ∷ shows (second 25) (short 20 (0 ∷ []) ∷ short 35 (0 ∷ 1 ∷ []) ∷ short 20 (0 ∷ 1 ∷ []) ∷ short 20 (0 ∷ 1 ∷ 2 ∷ []) ∷ [])
+    ∷ shows (second f 25) (short 20 (0 ∷ []) ∷ short 35 (0 ∷ 1 ∷ []) ∷ short 20 (0 ∷ 1 ∷ []) ∷ short 20 (0 ∷ 1 ∷ 2 ∷ []) ∷ [])
     -- (j) with 1-2 at 15
-    ∷ refuses (second 15) 5 (0 ∷ 1 ∷ [])
+    ∷ refuses (second f 15) 5 (0 ∷ 1 ∷ [])
     -- (k) one bus, no branch: an empty table
-    ∷ shows single []
+    ∷ shows (single f) []
     -- (l) from 4,294,967,290 to 10 is 16; from 10 to 9 is refused
     ∷ meters (registers (0 ∷ 0 ∷ []) (0 ∷ 0 ∷ []) (0 ∷ 4294967290 ∷ []) (0 ∷ 10 ∷ []) 0) (pos 7 ∷ pos 7 ∷ pos 7 ∷ []) 0 (minus 16 ∷ pos 16 ∷ pos 7 ∷ [])
     ∷ meters (registers (0 ∷ 10 ∷ []) (0 ∷ 9 ∷ []) (0 ∷ 0 ∷ []) (0 ∷ 0 ∷ []) 0) (pos 7 ∷ pos 7 ∷ []) 15 (pos 7 ∷ pos 7 ∷ [])
     -- a tie: buses 0 and 1 reach 2 as well, and the smaller group is shown
-    ∷ shows tie (short 2 (0 ∷ []) ∷ carries ∷ carries ∷ [])
+    ∷ shows (tie f) (short 2 (0 ∷ []) ∷ carries ∷ carries ∷ [])
     -- (d) at power factor 999: 20 kVA give 19 kW, and rounding makes branch 1 short
-    ∷ shows (triangle 999 20 1 1) (carries ∷ short 1 (0 ∷ 1 ∷ []) ∷ carries ∷ [])
+    ∷ shows (triangle f 999 20 1 1) (carries ∷ short 1 (0 ∷ 1 ∷ []) ∷ carries ∷ [])
     ∷ []

@@ -18,7 +18,7 @@ use Rattle.layout.specs.declared.Fault.{Fault}
 use Rattle.layout.specs.declared.Fault.the-variants.{Sound, At}
 use Rattle.layout.specs.Book.{Book}
 use Rattle.layout.specs.Fault.{firstFault}
-use Rattle.layout.specs.Layout.{bytesFor, busesIn, branchesIn, factorIn, spareIn, injectionAt, tailIn, bookOf}
+use Rattle.layout.specs.Layout.{bytesFor, busesIn, branchesIn, factorIn, formIn, spareIn, injectionAt, tailIn, bookOf}
 use Rattle.layout.specs.Check.{outside, refuseAt, balances, busFaultAt, branchFaultAt, headCheck, bodyCheck, checkOf, book, refused, decided, decode}
 use Rattle.layout.proofs.Faults.{first-sound, sound-first}
 
@@ -60,7 +60,7 @@ past-fault (At i j) n next e = let z : _≡_ {A = ℕ} 0 1 = cc in absurd (omega
 pub record Valid (bs : List ℕ) : Type 0 where
   pub range : InRange (busesIn bs) (branchesIn bs) (factorIn bs)
   pub spare : spareIn bs ≡ 0
-  pub exact : length bs ≡ bytesFor (busesIn bs) (branchesIn bs)
+  pub exact : length bs ≡ bytesFor (formIn bs) (busesIn bs) (branchesIn bs)
   pub bus-sound : (k : ℕ) → k < busesIn bs → busFaultAt bs k ≡ 0
   pub branch-sound : (k : ℕ) → k < branchesIn bs → branchFaultAt bs k ≡ 0
   pub tail : tailIn bs ≡ 0
@@ -73,7 +73,7 @@ accepted-valid bs e =
     let p₁ = past (ltb (length bs) 4) 1 _ (h .0) in
     let p₂ = past (outside (busesIn bs) (branchesIn bs) (factorIn bs)) 2 _ (p₁ .1) in
     let p₃ = past (not (eqb (spareIn bs) 0)) 3 _ (p₂ .1) in
-    let p₄ = past (not (eqb (length bs) (bytesFor (busesIn bs) (branchesIn bs)))) 1 _ (p₃ .1) in
+    let p₄ = past (not (eqb (length bs) (bytesFor (formIn bs) (busesIn bs) (branchesIn bs)))) 1 _ (p₃ .1) in
     let q₁ = past-fault (firstFault (busFaultAt bs) (busesIn bs)) 4 _ (h .1) in
     let q₂ = past-fault (firstFault (branchFaultAt bs) (branchesIn bs)) 5 _ (q₁ .1) in
     let q₃ = past (not (eqb (tailIn bs) 0)) 6 _ (q₂ .1) in

@@ -9,16 +9,22 @@ use Rattle.rows.specs.Bit.{bitAt}
 use Rattle.rows.specs.Sum.{over}
 use Rattle.bits.specs.Field.{field, withBit, setBit, put}
 use Rattle.bits.specs.Fields.{putItems}
-use Rattle.layout.specs.Book.{Book}
+use Rattle.layout.specs.declared.Form.the-variants.{Old, New}
+use Rattle.layout.specs.declared.Branch.{Branch}
+use Rattle.layout.specs.Book.{Book, inForm}
 use Rattle.layout.specs.Fault.{busFault, branchFault, firstFault}
 use Rattle.layout.specs.Layout.{bytesFor, bookOf, packed, encode}
 use Rattle.layout.specs.Check.{checkOf, decode, book, refused}
 
+abbrev joins : ℕ → ℕ → ℕ → Branch
+joins first second rating = record { first = first; second = second; kva = inKva rating; kva2 = inKva rating; status = 1 }
+
 abbrev pub triangle : Book
 triangle = record {
+  form = Old;
   factor = 1000;
   injections = pos 30 ∷ negsuc 9 ∷ negsuc 19 ∷ [];
-  branches = record { first = 0; second = 1; kva = inKva 40; status = 1 } ∷ record { first = 0; second = 2; kva = inKva 40; status = 1 } ∷ record { first = 1; second = 2; kva = inKva 30; status = 1 } ∷ [];
+  branches = joins 0 1 40 ∷ joins 0 2 40 ∷ joins 1 2 30 ∷ [];
 }
 
 -- 03 01 FD 00 00 00 F4 00 02 A0 00 28 00 08 00 14 40 02 00 02 88 10 40 00 3D
@@ -33,8 +39,17 @@ pub triangle-encodes : encode triangle ≡ triangleBytes
 unfolding encode packed putItems put setBit withBit
 triangle-encodes = refl
 
-largest : bytesFor 128 256 ≡ 1460
-largest = refl
+-- The same moved up, each branch with its kVA twice:
+-- 03 01 FD 10 00 00 F4 00 02 A0 00 28 00 08 00 14 00 01 44 00 20 00 28 00 02 88 10 40 00 3C 00 03 D0
+abbrev pub triangleUp : List ℕ
+triangleUp = 3 ∷ 1 ∷ 253 ∷ 16 ∷ 0 ∷ 0 ∷ 244 ∷ 0 ∷ 2 ∷ 160 ∷ 0 ∷ 40 ∷ 0 ∷ 8 ∷ 0 ∷ 20 ∷ 0 ∷ 1 ∷ 68 ∷ 0 ∷ 32 ∷ 0 ∷ 40 ∷ 0 ∷ 2 ∷ 136 ∷ 16 ∷ 64 ∷ 0 ∷ 60 ∷ 0 ∷ 3 ∷ 208 ∷ []
+
+triangle-moves-up : encode (inForm New triangle) ≡ triangleUp
+unfolding encode packed putItems put setBit withBit
+triangle-moves-up = refl
+
+largest : (bytesFor Old 128 256 ≡ 1460) × (bytesFor New 128 256 ≡ 2100)
+largest = (refl, refl)
 
 -- ---- refusals
 
@@ -48,10 +63,18 @@ no-bus : decode (0 ∷ 0 ∷ 0 ∷ 33 ∷ []) ≡ refused 2
 unfolding decode checkOf field bitAt
 no-bus = refl
 
--- A header fill bit, before the length.
+-- A header fill bit, before the length. The first of the five of old is the layout bit: a new book without a branch has the old one's length.
 header-fill : decode (1 ∷ 0 ∷ 125 ∷ 1 ∷ []) ≡ refused 3
 unfolding decode checkOf field bitAt
 header-fill = refl
+
+new-header-fill : decode (1 ∷ 0 ∷ 125 ∷ 17 ∷ []) ≡ refused 3
+unfolding decode checkOf field bitAt
+new-header-fill = refl
+
+new-book : decode (1 ∷ 0 ∷ 125 ∷ 16 ∷ 0 ∷ 0 ∷ 0 ∷ []) ≡ book (record { form = New; factor = 1000; injections = pos 0 ∷ []; branches = [] })
+unfolding decode checkOf bookOf firstFault busFault over upTo field bitAt
+new-book = refl
 
 -- A byte too few, before a minus zero.
 too-few : decode (1 ∷ 0 ∷ 125 ∷ 0 ∷ 128 ∷ 0 ∷ []) ≡ refused 1

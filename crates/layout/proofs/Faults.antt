@@ -7,10 +7,12 @@ use native.Mathlib.Numerals.{add-one}
 use borrow.Author.Tests.{ltb-false, leb-false, eqb-true, eqb-false, le-ltb, lt-leb, eq-eqb, ne-eqb}
 use lib.Dec.{ltb, leb, eqb}
 use Rattle.rows.proofs.Sum.{side, below, equal, above}
+use Rattle.layout.specs.declared.Form.{Form}
 use Rattle.layout.specs.declared.Branch.{Branch}
 use Rattle.layout.specs.declared.Fault.{Fault}
 use Rattle.layout.specs.declared.Fault.the-variants.{Sound, At}
 use Rattle.layout.specs.Book.{GoodBranch}
+use Rattle.layout.specs.Form.{fields}
 use Rattle.layout.specs.Fault.{faultIf, busFault, branchFault, faultAt, orElse, firstFault}
 
 -- ---- one item
@@ -51,30 +53,36 @@ bus-sound sign size g =
       and-false (eqb sign 1) (eqb size 0) (λ a b. g .not-minus-zero (eqb-true sign 1 a) (eqb-true size 0 b)),
     )
 
-pub sound-branch : (n : ℕ) (x : Branch) → branchFault n x ≡ 0 → GoodBranch n x
+pub sound-branch : (f : Form) (n : ℕ) (x : Branch) → branchFault f n x ≡ 0 → GoodBranch n x
 unfolding branchFault
-sound-branch n x e =
+sound-branch f n x e =
     let p₁ = past-fault (leb n (x .first)) 1 _ (omega arith) e in
     let p₂ = past-fault (leb n (x .second)) 2 _ (omega arith) (p₁ .1) in
     let p₃ = past-fault (eqb (x .first) (x .second)) 2 _ (omega arith) (p₂ .1) in
     let p₄ = past-fault (ltb 1000000 (x .kva .0)) 3 _ (omega arith) (p₃ .1) in
-    let p₅ = past-fault (ltb 1 (x .status)) 4 0 (omega arith) (p₄ .1) in
+    let p₅ = past-fault (ltb (x .kva2 .0) (x .kva .0)) 4 _ (omega arith) (p₄ .1) in
+    let p₆ = past-fault (ltb 1000000 (x .kva2 .0)) 4 _ (omega arith) (p₅ .1) in
+    let p₇ = past-fault (ltb 1 (x .status)) (fields f) 0 (omega arith) (p₆ .1) in
     record {
       first-there = leb-false n (x .first) (p₁ .0);
       second-there = leb-false n (x .second) (p₂ .0);
       apart = eqb-false (x .first) (x .second) (p₃ .0);
       rating = ltb-false 1000000 (x .kva .0) (p₄ .0);
-      flag = ltb-false 1 (x .status) (p₅ .0);
+      not-below = ltb-false (x .kva2 .0) (x .kva .0) (p₅ .0);
+      second-rating = ltb-false 1000000 (x .kva2 .0) (p₆ .0);
+      flag = ltb-false 1 (x .status) (p₇ .0);
     }
 
-pub branch-sound : (n : ℕ) (x : Branch) → GoodBranch n x → branchFault n x ≡ 0
+pub branch-sound : (f : Form) (n : ℕ) (x : Branch) → GoodBranch n x → branchFault f n x ≡ 0
 unfolding branchFault
-branch-sound n x g =
+branch-sound f n x g =
     simp (
       lt-leb n (x .first) (g .first-there),
       lt-leb n (x .second) (g .second-there),
       ne-eqb (x .first) (x .second) (g .apart),
       le-ltb 1000000 (x .kva .0) (g .rating),
+      le-ltb (x .kva2 .0) (x .kva .0) (g .not-below),
+      le-ltb 1000000 (x .kva2 .0) (g .second-rating),
       le-ltb 1 (x .status) (g .flag),
     )
 

@@ -12,7 +12,7 @@ use Rattle.answer.proofs.Numbers.{Gives, gives-if, gives-then}
 use Rattle.layout.specs.declared.Fault.{Fault}
 use Rattle.layout.specs.declared.Fault.the-variants.{Sound, At}
 use Rattle.layout.specs.Fault.{firstFault}
-use Rattle.layout.specs.Layout.{bytesFor, busesIn, branchesIn, factorIn, spareIn, injectionAt, tailIn}
+use Rattle.layout.specs.Layout.{bytesFor, busesIn, branchesIn, factorIn, formIn, spareIn, injectionAt, tailIn}
 use Rattle.layout.specs.Check.{outside, refuseAt, balances, busFaultAt, branchFaultAt, headCheck, bodyCheck, checkOf, checkNumbers}
 
 pub gives-at : (ns : List ℕ) (w : Fault) (n : ℕ) (next : Outcome) → member n ns ≡ true → Gives ns next → Gives ns (refuseAt w n next)
@@ -26,7 +26,7 @@ check-gives bs =
     (gives-if checkNumbers (ltb (length bs) 4) 1 _ refl
     (gives-if checkNumbers (outside (busesIn bs) (branchesIn bs) (factorIn bs)) 2 _ refl
     (gives-if checkNumbers (not (eqb (spareIn bs) 0)) 3 _ refl
-    (gives-if checkNumbers (not (eqb (length bs) (bytesFor (busesIn bs) (branchesIn bs)))) 1 Accepted refl tt))))
+    (gives-if checkNumbers (not (eqb (length bs) (bytesFor (formIn bs) (busesIn bs) (branchesIn bs)))) 1 Accepted refl tt))))
     (gives-at checkNumbers (firstFault (busFaultAt bs) (busesIn bs)) 4 _ refl
     (gives-at checkNumbers (firstFault (branchFaultAt bs) (branchesIn bs)) 5 _ refl
     (gives-if checkNumbers (not (eqb (tailIn bs) 0)) 6 _ refl

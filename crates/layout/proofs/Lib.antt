@@ -1,4 +1,5 @@
 pub mod FirstPlaces
+pub mod Forms
 pub mod Faults
 pub mod AcceptedWhere
 pub mod SignAndSize
@@ -8,7 +9,8 @@ pub mod DecodeEncode
 pub mod StatusChanged
 pub mod FirstFault
 pub mod Balanced
-pub mod FourABranch
+pub mod NumbersABranch
 pub mod Given
 pub mod Examples
 pub mod FieldsPut
+pub mod FieldsRead

@@ -2,7 +2,7 @@
 use mathlib.Core.Path.{_≡_, sym, ap, _∙_}
 use mathlib.Core.Logic.{_≢_}
 use mathlib.Core.List.{List}
-use Prim.Native.Nat.{ℕ, _+_, _*_, _<_, _≤_}
+use Prim.Native.Nat.{ℕ, _+_, _-_, _*_, _<_, _≤_}
 use native.Mathlib.Nat.{mul-le-mul-left}
 use native.Mathlib.Omega.{arith}
 use lib.ListN.{length, getD, set, length-set}
@@ -15,29 +15,39 @@ use Rattle.rows.proofs.Row.{length-upTo, getD-upTo}
 use Rattle.rows.proofs.Sum.{side, below, equal, above, over-same}
 use Rattle.quantity.specs.Signed.{posPart, negPart}
 use Rattle.bits.specs.Field.{field, setBit}
-use Rattle.bits.specs.Fields.{reads, item}
-use Rattle.bits.proofs.ReadAsPut.{length-setBit, bit-same, bit-other, field-same, field-one}
+use Rattle.bits.specs.Fields.{total, reads}
+use Rattle.bits.proofs.ReadAsPut.{length-setBit, bytes-setBit, bit-same, bit-other, field-same, field-one}
 use Rattle.bits.proofs.Fields.{reads-same}
+use Rattle.layout.specs.declared.Form.{Form}
 use Rattle.layout.specs.declared.Branch.{Branch}
 use Rattle.quantity.specs.Rating.{inKva}
-use Rattle.layout.specs.Book.{Book, buses, count, noBranch, restated, withStatus, GoodBranch}
+use Rattle.layout.specs.Form.{formOf, branchWidths, branchOf}
+use Rattle.layout.specs.Book.{Book, count, noBranch, restated, withStatus, GoodBranch, WellFormed}
 use Rattle.layout.specs.Fault.{busFault, branchFault}
-use Rattle.layout.specs.Layout.{headWidths, busWidths, branchWidths, branchStart, statusBit, bitsFor, bytesFor, busesIn, branchesIn, factorIn, busAt, branchOf, injectionOf, injectionAt, branchAt, tailIn, bookOf}
+use Rattle.layout.specs.Layout.{headWidths, busWidths, statusBit, bitsFor, bytesFor, busesIn, branchesIn, factorIn, formIn, busAt, injectionOf, injectionAt, branchAfter, branchAt, tailIn, bookOf, encode}
 use Rattle.layout.specs.Check.{checkOf, decode, book}
 use Rattle.layout.proofs.FirstPlaces.{upTo-list, upTo-same}
+use Rattle.layout.proofs.Forms.{wide, kva2-read, status-read}
 use Rattle.layout.proofs.Faults.{sound-branch, branch-sound}
 use Rattle.layout.proofs.AcceptedWhere.{Valid, accepted-valid, valid-accepted, decode-accepted, decoded}
-use Rattle.layout.proofs.WellFormed.{buses-of, count-of}
+use Rattle.layout.proofs.WellFormed.{count-of}
+use Rattle.layout.proofs.DecodeEncode.{bytes-encode, count-encode, valid-encode, book-encode, encode-valid}
 
-module _ (bs : List ℕ) (k v : ℕ) (two : v < 2) (there : k < branchesIn bs) (long : length bs ≡ bytesFor (busesIn bs) (branchesIn bs)) where
+module _ (bs : List ℕ) (k v : ℕ) (two : v < 2) (there : k < branchesIn bs) (long : length bs ≡ bytesFor (formIn bs) (busesIn bs) (branchesIn bs)) where
   abbrev at : ℕ
-  at = statusBit (busesIn bs) k
+  at = statusBit bs k
+
+  abbrev form : Form
+  form = formIn bs
+
+  abbrev width : ℕ
+  width = total (branchWidths form)
 
   abbrev changed : List ℕ
   changed = setBit bs at v
 
   room : at < 8 * length bs
-  room = omega (arith, mul-le-mul-left 35 there)
+  room = omega (arith, wide form .some, mul-le-mul-left width there)
 
   other : (i : ℕ) → i ≢ at → bitAt changed i ≡ bitAt bs i
   other i ne = bit-other bs at i v two ne
@@ -54,41 +64,55 @@ module _ (bs : List ℕ) (k v : ℕ) (two : v < 2) (there : k < branchesIn bs) (
   factor-kept : factorIn changed ≡ factorIn bs
   factor-kept = ap (λ (l : List ℕ). nth l 2) head-kept
 
+  pub form-kept : formIn changed ≡ form
+  form-kept = ap (λ (l : List ℕ). formOf (nth l 3)) head-kept
+
+  -- The status bits stand where they stood.
+  pub bit-kept : (j : ℕ) → statusBit changed j ≡ statusBit bs j
+  bit-kept j = ap (λ (l : List ℕ). bitsFor (formOf (nth l 3)) (nth l 0) j + (total (branchWidths (formOf (nth l 3))) - 1)) head-kept
+
   bus-kept : (j : ℕ) → j < busesIn bs → busAt changed j ≡ busAt bs j
   bus-kept j h = reads-same changed bs _ busWidths (λ i a b. other i (λ e. omega (arith, mul-le-mul-left 21 h)))
 
+  placed-kept : (j : ℕ) → branchAt changed j ≡ branchAfter form (busesIn bs) changed j
+  placed-kept j = ap (λ (f : Form). branchAfter f (busesIn changed) changed j) form-kept ∙ ap (λ (n : ℕ). branchAfter form n changed j) buses-kept
+
   branch-kept : (j : ℕ) → j ≢ k → branchAt changed j ≡ branchAt bs j
   branch-kept j ne =
-      ap (λ (n : ℕ). branchOf (item branchWidths changed (branchStart n) j)) buses-kept
-      ∙ ap branchOf (reads-same changed bs _ branchWidths (λ i a b. other i (λ e. apart i a b e)))
+      placed-kept j
+      ∙ ap (λ (l : List ℕ). branchOf form (nth l)) (reads-same changed bs _ (branchWidths form) (λ i a b. other i (λ e. apart i a b e)))
     where
-      apart : (i : ℕ) → branchStart (busesIn bs) + 35 * j ≤ i → i < branchStart (busesIn bs) + 35 * j + 35 → i ≡ at → ⊥
-      apart i a b e = ne (omega arith)
+      apart : (i : ℕ) → bitsFor form (busesIn bs) j ≤ i → i < bitsFor form (busesIn bs) j + width → i ≡ at → ⊥
+      apart i a b e = elim (side j k) [
+        | below l ↦ omega (arith, wide form .some, mul-le-mul-left width l)
+        | equal l ↦ ne l
+        | above l ↦ omega (arith, wide form .some, mul-le-mul-left width l)
+      ]
 
   branch-changed : branchAt changed k ≡ restated (branchAt bs k) v
   branch-changed =
-      let p = branchStart (busesIn bs) + 35 * k in
+      let p = bitsFor form (busesIn bs) k in
+      let w = wide form .some in
       let e₁ = field-same changed bs p 7 (λ i a b. other i (λ e. omega arith)) in
       let e₂ = field-same changed bs (p + 7) 7 (λ i a b. other i (λ e. omega arith)) in
       let e₃ = field-same changed bs (p + 7 + 7) 20 (λ i a b. other i (λ e. omega arith)) in
-      let q : p + 7 + 7 + 20 ≡ at = omega arith in
-      let e₄ : field changed (p + 7 + 7 + 20) 1 ≡ v = rw q (field-one changed at ∙ bit-same bs at v two room) in
-      ap (λ (n : ℕ). branchOf (item branchWidths changed (branchStart n) k)) buses-kept
-      ∙ (λ i. record { first = e₁ i; second = e₂ i; kva = inKva (e₃ i); status = e₄ i })
+      let e₄ = kva2-read form changed p ∙ field-same changed bs (p + (width - 1) - 20) 20 (λ i a b. other i (λ e. omega arith)) ∙ sym (kva2-read form bs p) in
+      let e₅ = status-read form changed p ∙ field-one changed at ∙ bit-same bs at v two room in
+      placed-kept k ∙ (λ i. record { first = e₁ i; second = e₂ i; kva = inKva (e₃ i); kva2 = inKva (e₄ i); status = e₅ i })
 
   tail-kept : tailIn changed ≡ tailIn bs
   tail-kept =
-      ap (λ (l : List ℕ). field changed (bitsFor (nth l 0) (nth l 1)) 7) head-kept
-      ∙ field-same changed bs _ 7 (λ i a b. other i (λ e. omega (arith, mul-le-mul-left 35 there)))
+      ap (λ (l : List ℕ). field changed (bitsFor (formOf (nth l 3)) (nth l 0) (nth l 1)) 7) head-kept
+      ∙ field-same changed bs _ 7 (λ i a b. other i (λ e. omega (arith, wide form .some, mul-le-mul-left width there)))
 
   good-changed : Valid bs → (j : ℕ) → j < branchesIn bs → GoodBranch (busesIn bs) (branchAt changed j)
   good-changed w j h =
-      let g = sound-branch (busesIn bs) (branchAt bs j) (w .branch-sound j h) in
+      let g = sound-branch form (busesIn bs) (branchAt bs j) (w .branch-sound j h) in
       elim (side j k) [
         | below l ↦ rw (branch-kept j (λ e. omega arith)) g
         | equal l ↦
-            let g′ = sound-branch (busesIn bs) (branchAt bs k) (w .branch-sound k there) in
-            rw (l, branch-changed) (record { first-there = g′ .first-there; second-there = g′ .second-there; apart = g′ .apart; rating = g′ .rating; flag = omega arith })
+            let g′ = sound-branch form (busesIn bs) (branchAt bs k) (w .branch-sound k there) in
+            rw (l, branch-changed) (record { first-there = g′ .first-there; second-there = g′ .second-there; apart = g′ .apart; rating = g′ .rating; not-below = g′ .not-below; second-rating = g′ .second-rating; flag = omega arith })
         | above l ↦ rw (branch-kept j (λ e. omega arith)) g
       ]
 
@@ -97,14 +121,15 @@ module _ (bs : List ℕ) (k v : ℕ) (two : v < 2) (there : k < branchesIn bs) (
       let p = buses-kept in
       let q = count-kept in
       let f = factor-kept in
+      let o = form-kept in
       record {
         range = rw (p, q, f) (w .range);
-        spare = ap (λ (l : List ℕ). nth l 3) head-kept ∙ w .spare;
-        exact = rw (p, q) (length-setBit bs at v ∙ w .exact);
+        spare = ap (λ (l : List ℕ). nth l 4) head-kept ∙ w .spare;
+        exact = rw (o, p, q) (length-setBit bs at v ∙ w .exact);
         bus-sound = λ j h.
             let l : j < busesIn bs = omega arith in
             ap (λ (vs : List ℕ). busFault (nth vs 0) (nth vs 1)) (bus-kept j l) ∙ w .bus-sound j l;
-        branch-sound = λ j h. ap (λ (n : ℕ). branchFault n (branchAt changed j)) p ∙ branch-sound (busesIn bs) (branchAt changed j) (good-changed w j (omega arith));
+        branch-sound = λ j h. ap (λ (n : ℕ). branchFault (formIn changed) n (branchAt changed j)) p ∙ branch-sound (formIn changed) (busesIn bs) (branchAt changed j) (good-changed w j (omega arith));
         tail = tail-kept ∙ w .tail;
         balance = rw p
             (over-same (busesIn bs) all all _ _ (λ j h. ap (λ (vs : List ℕ). posPart (injectionOf vs)) (bus-kept j h))
@@ -134,20 +159,28 @@ module _ (bs : List ℕ) (k v : ℕ) (two : v < 2) (there : k < branchesIn bs) (
       let z : restated (branchAt bs k) v ≡ restated (getD (upTo (branchesIn bs) (branchAt bs)) k noBranch) v =
       ap (λ (u : Branch). restated u v) (sym (getD-upTo (branchesIn bs) (branchAt bs) k noBranch there)) in
       let y′ = y ∙ ap (λ (u : Branch). set (upTo (branchesIn bs) (branchAt bs)) k u) z in
-      λ i. record { factor = factor-kept i; injections = x i; branches = y′ i }
+      λ i. record { form = form-kept i; factor = factor-kept i; injections = x i; branches = y′ i }
 
 -- An accepted book with branch k's status bit made v is accepted, and says the same but for that status.
 module _ (bs : List ℕ) (e : checkOf bs ≡ Accepted) (k v : ℕ) (there : k < branchesIn bs) (two : v < 2) where
-  pub status-accepted : checkOf (setBit bs (statusBit (busesIn bs) k) v) ≡ Accepted
+  pub status-accepted : checkOf (setBit bs (statusBit bs k) v) ≡ Accepted
   status-accepted = let w = accepted-valid bs e in valid-accepted _ (valid-changed bs k v two there (w .exact) w)
 
-  pub status-book : bookOf (setBit bs (statusBit (busesIn bs) k) v) ≡ withStatus (bookOf bs) k v
+  pub status-book : bookOf (setBit bs (statusBit bs k) v) ≡ withStatus (bookOf bs) k v
   status-book = book-changed bs k v two there (accepted-valid bs e .exact)
 
-pub decode-status : (bs : List ℕ) (b : Book) (k v : ℕ) → decode bs ≡ book b → k < count b → v < 2 → decode (setBit bs (statusBit (buses b) k) v) ≡ book (withStatus b k v)
+-- The bytes of a book with branch k's status bit made v are those of the book with that status.
+pub encode-status : (b : Book) → WellFormed b → (k v : ℕ) → k < count b → v < 2 → setBit (encode b) (statusBit (encode b) k) v ≡ encode (withStatus b k v)
+encode-status b w k v h two =
+    let bs = encode b in
+    let e = valid-encode b w in
+    let there : k < branchesIn bs = omega (arith, count-encode b w) in
+    sym (encode-valid _ (bytes-setBit bs (statusBit bs k) v two (bytes-encode b)) (valid-changed bs k v two there (e .exact) e))
+    ∙ ap encode (book-changed bs k v two there (e .exact) ∙ ap (λ (x : Book). withStatus x k v) (book-encode b w))
+
+pub decode-status : (bs : List ℕ) (b : Book) (k v : ℕ) → decode bs ≡ book b → k < count b → v < 2 → decode (setBit bs (statusBit bs k) v) ≡ book (withStatus b k v)
 decode-status bs b k v e h two =
     let d = decoded bs b e in
-    let p : busesIn bs ≡ buses b = sym (buses-of bs) ∙ ap buses (d .1) in
     let q : branchesIn bs ≡ count b = sym (count-of bs) ∙ ap count (d .1) in
     let l : k < branchesIn bs = omega arith in
-    rw (← p, ← d .1) (decode-accepted _ (status-accepted bs (d .0) k v l two) ∙ ap book (status-book bs (d .0) k v l two))
+    rw (← d .1) (decode-accepted _ (status-accepted bs (d .0) k v l two) ∙ ap book (status-book bs (d .0) k v l two))

@@ -1,5 +1,5 @@
 -- An accepted book is well formed: counts, ranges, ends, and a sum of 0.
-use mathlib.Core.Path.{_≡_, refl, ap, _∙_}
+use mathlib.Core.Path.{_≡_, refl, sym, ap, _∙_}
 use mathlib.Core.List.{List}
 use Prim.Native.Nat.{ℕ, _<_}
 use native.Mathlib.Omega.{arith}
@@ -10,9 +10,12 @@ use Rattle.rows.specs.Sum.{all, over, sum}
 use Rattle.rows.proofs.Row.{length-upTo, getD-upTo}
 use Rattle.quantity.specs.Signed.{posPart, negPart}
 use Rattle.quantity.proofs.Parts.{by-parts, sum-parts, sum-same}
+use Rattle.bits.specs.Fields.{item}
+use Rattle.layout.specs.Form.{branchWidths}
 use Rattle.layout.specs.Book.{Book, buses, count, injection, branch, noBranch, WellFormed}
-use Rattle.layout.specs.Layout.{busesIn, branchesIn, factorIn, busAt, injectionAt, branchAt, bookOf}
+use Rattle.layout.specs.Layout.{branchStart, busesIn, branchesIn, factorIn, formIn, busAt, injectionAt, branchAt, bookOf}
 use Rattle.layout.specs.Check.{checkOf, decode, book}
+use Rattle.layout.proofs.Forms.{one-figure}
 use Rattle.layout.proofs.Faults.{sound-bus, sound-branch}
 use Rattle.layout.proofs.SignAndSize.{size-of}
 use Rattle.layout.proofs.AcceptedWhere.{Valid, accepted-valid, decoded}
@@ -32,6 +35,10 @@ module _ (bs : List ℕ) where
   pub count-of : count (bookOf bs) ≡ branchesIn bs
   unfolding bookOf
   count-of = length-upTo (branchesIn bs) (branchAt bs)
+
+  pub form-of : bookOf bs .form ≡ formIn bs
+  unfolding bookOf
+  form-of = refl
 
   pub factor-of : bookOf bs .factor ≡ factorIn bs
   unfolding bookOf
@@ -57,7 +64,10 @@ module _ (bs : List ℕ) where
         rw (injection-of k l, size-of (nth (busAt bs k) 0) (nth (busAt bs k) 1)) (sound-bus _ _ (v .bus-sound k l) .small);
     good = λ k h.
         let l : k < branchesIn bs = omega (arith, count-of) in
-        rw (buses-of, branch-of k l) (sound-branch (busesIn bs) (branchAt bs k) (v .branch-sound k l));
+        rw (buses-of, branch-of k l) (sound-branch (formIn bs) (busesIn bs) (branchAt bs k) (v .branch-sound k l));
+    one-figure = λ e k h.
+        let l : k < branchesIn bs = omega (arith, count-of) in
+        rw (branch-of k l) (one-figure (formIn bs) (nth (item (branchWidths (formIn bs)) bs (branchStart (busesIn bs)) k)) (sym form-of ∙ e));
     balanced = rw buses-of
         (sum-same (busesIn bs) all (injection (bookOf bs)) (injectionAt bs) injection-of ∙ balance-sum (busesIn bs) (injectionAt bs) (v .balance));
   }

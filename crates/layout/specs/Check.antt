@@ -15,7 +15,7 @@ use Rattle.layout.specs.declared.Fault.{Fault}
 use Rattle.layout.specs.declared.Fault.the-variants.{Sound, At}
 use Rattle.layout.specs.Fault.{busFault, branchFault, firstFault}
 use Rattle.layout.specs.Book.{Book}
-use Rattle.layout.specs.Layout.{bytesFor, busesIn, branchesIn, factorIn, spareIn, busAt, injectionAt, branchAt, tailIn, bookOf}
+use Rattle.layout.specs.Layout.{bytesFor, busesIn, branchesIn, factorIn, formIn, spareIn, busAt, injectionAt, branchAt, tailIn, bookOf}
 
 -- A count or the power factor is outside its range.
 abbrev pub outside : ℕ → ℕ → ℕ → Bool
@@ -34,14 +34,14 @@ abbrev pub busFaultAt : List ℕ → ℕ → ℕ
 busFaultAt bs k = busFault (nth (busAt bs k) 0) (nth (busAt bs k) 1)
 
 abbrev pub branchFaultAt : List ℕ → ℕ → ℕ
-branchFaultAt bs k = branchFault (busesIn bs) (branchAt bs k)
+branchFaultAt bs k = branchFault (formIn bs) (busesIn bs) (branchAt bs k)
 
 abbrev pub headCheck : List ℕ → Outcome
 headCheck bs =
     refuseIf (ltb (length bs) 4) 1
     (refuseIf (outside (busesIn bs) (branchesIn bs) (factorIn bs)) 2
     (refuseIf (not (eqb (spareIn bs) 0)) 3
-    (refuseIf (not (eqb (length bs) (bytesFor (busesIn bs) (branchesIn bs)))) 1
+    (refuseIf (not (eqb (length bs) (bytesFor (formIn bs) (busesIn bs) (branchesIn bs)))) 1
     Accepted)))
 
 abbrev pub bodyCheck : List ℕ → Outcome

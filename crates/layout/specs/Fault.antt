@@ -2,9 +2,11 @@
 use mathlib.Core.Bool.{Bool, true, false, _&&_}
 use Prim.Native.Nat.{ℕ, zero, suc}
 use lib.Dec.{ltb, leb, eqb}
+use Rattle.layout.specs.declared.Form.{Form}
 use Rattle.layout.specs.declared.Branch.{Branch}
 use Rattle.layout.specs.declared.Fault.{Fault}
 use Rattle.layout.specs.declared.Fault.the-variants.{Sound, At}
+use Rattle.layout.specs.Form.{fields}
 
 -- Fields are numbered from 1, and 0 is no fault.
 abbrev pub faultIf : Bool → ℕ → ℕ → ℕ
@@ -15,15 +17,18 @@ faultIf false field next = next
 unfoldable pub busFault : ℕ → ℕ → ℕ
 busFault sign size = faultIf (ltb 1000000 size) 2 (faultIf (eqb sign 1 && eqb size 0) 2 0)
 
--- A bus not below the bus count; both ends equal, which is the second bus's fault; kVA above 1,000,000; status above 1.
-unfoldable pub branchFault : ℕ → Branch → ℕ
-branchFault n x =
+-- A bus not below the bus count; both ends equal, which is the second bus's fault; kVA above 1,000,000; a second kVA below the first or above
+-- 1,000,000; status above 1, which is the last field of its form.
+unfoldable pub branchFault : Form → ℕ → Branch → ℕ
+branchFault f n x =
     faultIf (leb n (x .first)) 1
     (faultIf (leb n (x .second)) 2
     (faultIf (eqb (x .first) (x .second)) 2
     (faultIf (ltb 1000000 (x .kva .0)) 3
-    (faultIf (ltb 1 (x .status)) 4
-    0))))
+    (faultIf (ltb (x .kva2 .0) (x .kva .0)) 4
+    (faultIf (ltb 1000000 (x .kva2 .0)) 4
+    (faultIf (ltb 1 (x .status)) (fields f)
+    0))))))
 
 abbrev pub faultAt : ℕ → ℕ → Fault
 faultAt item zero = Sound

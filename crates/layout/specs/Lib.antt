@@ -1,3 +1,4 @@
+pub mod Form
 pub mod Book
 pub mod Fault
 pub mod Layout

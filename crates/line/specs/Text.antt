@@ -42,3 +42,7 @@ signedsOf row = joined (length row) (λ i. 32 ∷ signedOf (getD row i (pos 0)))
 
 abbrev pub hexesOf : List ℕ → List ℕ
 hexesOf bytes = joined (length bytes) (λ i. hexOf (nth bytes i))
+
+-- How a line of bytes in hex ends: a space, 32, the bytes, and the newline, 10.
+abbrev pub hexEnd : List ℕ → List ℕ
+hexEnd bytes = 32 ∷ (hexesOf bytes ++ (10 ∷ []))

@@ -12,6 +12,7 @@ mod writing;
 pub use answers::put_answer;
 pub use answers::put_group;
 pub use whole::answer_line;
+pub use whole::bytes_line;
 pub use whole::hex_line;
 pub use whole::numbers_line;
 pub use whole::signed_line;

@@ -1,10 +1,10 @@
 // Lines of a word and what follows it: each is built whole, in bytes enough for its longest text and a newline, and written at once.
 // How long its text is comes back.
-ghost use mathlib.Core.List.{[], _∷_, _++_};
+ghost use mathlib.Core.List.{_++_};
 ghost use mathlib.Core.Path.{_≡_};
 ghost use Prim.Native.Nat.{_+_, _*_, _≤_};
 ghost use lib.ListN.{length};
-ghost use Rattle.line.specs.Text.{nextOf, numbersOf, signedsOf, hexesOf};
+ghost use Rattle.line.specs.Text.{nextOf, numbersOf, signedsOf, hexEnd};
 ghost use Rattle.line.specs.AnswerText.{answerText};
 ghost use Rattle.line.specs.Inside.{Added};
 use crate::put;
@@ -49,15 +49,32 @@ pub fn numbers_line(word: &[u8], numbers: &[u32]) -> usize
     end
 }
 
-// A word, a number, and bytes in hex: with a space, 32, before the bytes and the newline, 10, the lent bytes hold them.
-pub fn hex_line(out: &mut [u8], word: &[u8], number: usize, bytes: &[u8]) -> usize
-    requires { ⌜ length (now word) + 2 * length (now bytes) + 23 ≤ length (now out) ⌝ }
-    ensures { λ r. ⌜ Added (now (word .entry) ++ (nextOf number ++ (32 ∷ (hexesOf (now (bytes .entry)) ++ (10 ∷ []))))) (now (out .entry)) 0 (now (out .exit)) (r + 1) ⌝ }
+// The end of a line of bytes in hex, written with what stands before it.
+fn end_in_hex(out: &mut [u8], at: usize, bytes: &[u8]) -> usize
+    requires { ⌜ at + 2 * length (now bytes) + 2 ≤ length (now out) ⌝ }
+    ensures { λ r. ⌜ Added (hexEnd (now (bytes .entry))) (now (out .entry)) at (now (out .exit)) (r + 1) ⌝ }
 {
-    let after_word = put(out, 0, word);
-    let after_number = put_next(out, after_word, number as u64);
-    let after = put(out, after_number, b" ");
+    let after = put(out, at, b" ");
     let end = put_hexes(out, after, bytes);
     write_line(out, end);
     end
+}
+
+// A word, a number, and bytes in hex: the lent bytes hold them, newline and all.
+pub fn hex_line(out: &mut [u8], word: &[u8], number: usize, bytes: &[u8]) -> usize
+    requires { ⌜ length (now word) + 2 * length (now bytes) + 23 ≤ length (now out) ⌝ }
+    ensures { λ r. ⌜ Added (now (word .entry) ++ (nextOf number ++ hexEnd (now (bytes .entry)))) (now (out .entry)) 0 (now (out .exit)) (r + 1) ⌝ }
+{
+    let after_word = put(out, 0, word);
+    let after_number = put_next(out, after_word, number as u64);
+    end_in_hex(out, after_number, bytes)
+}
+
+// The same without a number.
+pub fn bytes_line(out: &mut [u8], word: &[u8], bytes: &[u8]) -> usize
+    requires { ⌜ length (now word) + 2 * length (now bytes) + 2 ≤ length (now out) ⌝ }
+    ensures { λ r. ⌜ Added (now (word .entry) ++ hexEnd (now (bytes .entry))) (now (out .entry)) 0 (now (out .exit)) (r + 1) ⌝ }
+{
+    let after_word = put(out, 0, word);
+    end_in_hex(out, after_word, bytes)
 }

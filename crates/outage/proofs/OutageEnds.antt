@@ -19,7 +19,7 @@ use Rattle.answer.proofs.Refusals.{refusal-stands}
 use Rattle.answer.proofs.Said.{said-accepted, said-refused}
 use Rattle.answer.proofs.Numbers.{gives-said}
 use Rattle.bits.specs.Field.{setBit}
-use Rattle.layout.specs.Layout.{busesIn, statusBit}
+use Rattle.layout.specs.Layout.{statusBit}
 use Rattle.reroute.specs.InsideVerdicts.{Losable}
 use Rattle.reroute.specs.declared.Judgement.{Judgement}
 use Rattle.reroute.specs.declared.Verdict.the-variants.{Carries, Short}
@@ -138,11 +138,10 @@ module _ (bs : List ℕ) (flow : List ℤ) (table : List ℕ) (b : ℕ) where
 
                 pub ends-taken :
                     {bs′ table′ bits : List ℕ} {losses : ℕ} {t : Taken} → t .answer ≡ accepted → t .judged ≡ losses → named ≡ take 32 (drop 20 (recordAt table b))
-                    → Listing (q .wires .branches) (listedAt served touched table) bits → bs′ ≡ setBit bs (statusBit (q .wires .buses) b) 0
+                    → Listing (q .wires .branches) (listedAt served touched table) bits → bs′ ≡ setBit bs (statusBit bs b) 0
                     → ((D : Case) (f : ℕ → ℤ) → State D f (q .wires) served live (y .latent) → Rewritten D f served bits table table′ losses)
                     → TakeCounted b (lent bs flow table) (lent bs′ flow′ table′) t
                 ends-taken {bs′} {table′} {bits} {losses} {t} a losses-are named-is list book-is fresh =
-                    let i : bs′ ≡ setBit bs (statusBit (busesIn bs) b) 0 = book-is ∙ ap (λ (n : ℕ). setBit bs (statusBit n b) 0) (p .buses-are) in
                     let c = restates bs b 0 (may .passes .book) (may .there) (omega arith) in
                     let n : q .wires .branches ≤ length flow = omega (arith, may .passes .flow-room, p .branches-are) in
                     let f : ℕ → ℤ = λ j. pos (nth (set (q .live) b 0) j) -ℤ pos (nth (y .latent .ahead) j) in
@@ -152,9 +151,9 @@ module _ (bs : List ℕ) (flow : List ℤ) (table : List ℕ) (b : ℕ) where
                       none = λ n. absurd (n a);
                       judges = λ _. judges (out C b) served touched (Touched (on flow) (on flow′) b) (p .held .posed .few-branches) (state-left .held .served-is) marks only table bits list′ (losses-are ∙ redone .judged-is);
                       ends = accepts ok (state .fits) (rw a said-accepted) (record {
-                        book-is = i;
-                        book-accepted = rw i (c .book);
-                        case-is = rw i (c .case-is);
+                        book-is = book-is;
+                        book-accepted = rw book-is (c .book);
+                        case-is = rw book-is (c .case-is);
                         updated = updated (out C b) served touched (Touched (on flow) (on flow′) b) (p .held .posed .few-branches) (state-left .held .served-is) marks only table bits list′
                             (state-left .fits) (redone .table-is) (ap length flow-is ∙ length-headed (q .wires .branches) f flow n)
                             (λ k u. rw flow-is (headed-rest (q .wires .branches) f flow k (pos 0) (omega (arith, p .held .branches-are))));

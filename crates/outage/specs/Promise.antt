@@ -11,7 +11,7 @@ use Rattle.answer.specs.declared.Outcome.{Outcome}
 use Rattle.answer.specs.declared.Outcome.the-variants.{Accepted}
 use Rattle.answer.specs.declared.Answer.{Answer}
 use Rattle.bits.specs.Field.{setBit}
-use Rattle.layout.specs.Layout.{busesIn, statusBit}
+use Rattle.layout.specs.Layout.{statusBit}
 use Rattle.layout.specs.Check.{checkOf}
 use Rattle.verdict.specs.Case.{Case, out, on, Fits}
 use Rattle.verdict.specs.Record.{recordAt, names}
@@ -39,7 +39,7 @@ takeNumbers = 10 ∷ branchNumbers
 
 -- An accepted call: the one status bit, the flow and the shortlist.
 pub record TakenOut (b : ℕ) (before after : Lent) : Type 0 where
-  pub book-is : after .book ≡ setBit (before .book) (statusBit (busesIn (before .book)) b) 0
+  pub book-is : after .book ≡ setBit (before .book) (statusBit (before .book) b) 0
   pub book-accepted : checkOf (after .book) ≡ Accepted
   pub case-is : caseIn (after .book) ≡ out (caseIn (before .book)) b
   pub updated : Updated (out (caseIn (before .book)) b) (Touched (on (before .flow)) (on (after .flow)) b) before after

@@ -108,7 +108,7 @@ pub fn take_out_counted(book: &mut [u8], flow: &mut [i32], table: &mut [u8], bra
     let listed = shortlist(table, wires.branches, served, touched);
     state::fill_flow(flow, wires.branches, limits, after);
     let losses = state::rewrite(table, wires, served, limits, left, listed);
-    layout::set_status(book, wires.buses, branch, 0);
+    layout::set_status(book, branch, 0);
     told(Outcome::Accepted, losses)
 }
 

@@ -16,9 +16,11 @@ use Rattle.rows.proofs.Row.{either-false, length-upTo, getD-upTo}
 use Rattle.answer.proofs.Refusals.{past}
 use Rattle.bits.specs.Fields.{puts, putItems}
 use Rattle.layout.specs.declared.Fault.the-variants.{Sound, At}
+use Rattle.layout.specs.declared.Form.{Form}
 use Rattle.layout.specs.Book.{Book, buses, count, injection, branch, noBranch}
 use Rattle.layout.specs.Fault.{firstFault}
-use Rattle.layout.specs.Layout.{headWidths, busWidths, branchWidths, busStart, branchStart, bytesFor, busValues, branchValues, packed, encode}
+use Rattle.layout.specs.Form.{formBit, branchWidths, fields, branchValues}
+use Rattle.layout.specs.Layout.{headWidths, busWidths, busStart, branchStart, bytesFor, busValues, packed, encode}
 use Rattle.layout.specs.Check.{outside, balances}
 use Rattle.answer.proofs.Refusals.{leaves}
 use Rattle.layout.proofs.AcceptedWhere.{InRange, in-range, range-in, past-fault}
@@ -28,18 +30,18 @@ use Rattle.pack.proofs.Given.{write-said}
 use Rattle.pack.specs.Write.{entry, rowAt, bookFrom, entryFault, rowFault, writeCheck, BookWritten}
 
 -- Tables of a book that fits so much room.
-pub record Writable (n m factor : ℕ) (inj : List ℤ) (bra : List ℕ) (room : ℕ) : Type 0 where
+pub record Writable (form : Form) (n m factor : ℕ) (inj : List ℤ) (bra : List ℕ) (room : ℕ) : Type 0 where
   pub range : InRange n m factor
   pub injections-long : n ≤ length inj
-  pub branches-long : 4 * m ≤ length bra
+  pub branches-long : fields form * m ≤ length bra
   pub entries : firstFault (entryFault inj) n ≡ Sound
-  pub rows : firstFault (rowFault n bra) m ≡ Sound
+  pub rows : firstFault (rowFault form n bra) m ≡ Sound
   pub level : balances n (entry inj) ≡ true
-  pub fits : bytesFor n m ≤ room
+  pub fits : bytesFor form n m ≤ room
 
-module _ (n m factor : ℕ) (inj : List ℤ) (bra : List ℕ) (room : ℕ) where
+module _ (form : Form) (n m factor : ℕ) (inj : List ℤ) (bra : List ℕ) (room : ℕ) where
   abbrev check : Outcome
-  check = writeCheck n m factor inj bra room
+  check = writeCheck form n m factor inj bra room
 
   pub write-outside : outside n m factor ≡ true → refusal 2 ≡ check
   unfolding writeCheck
@@ -50,62 +52,62 @@ module _ (n m factor : ℕ) (inj : List ℤ) (bra : List ℕ) (room : ℕ) where
   write-few-injections o l = sym (rw (o, lt-ltb (length inj) n l) refl)
 
   module _ (o : outside n m factor ≡ false) (u : n ≤ length inj) where
-    pub write-few-branches : length bra < 4 * m → refusal 8 ≡ check
+    pub write-few-branches : length bra < fields form * m → refusal 8 ≡ check
     unfolding writeCheck
-    write-few-branches l = sym (rw (o, le-ltb (length inj) n u, lt-ltb (length bra) (4 * m) l) refl)
+    write-few-branches l = sym (rw (o, le-ltb (length inj) n u, lt-ltb (length bra) (fields form * m) l) refl)
 
-    module _ (v : 4 * m ≤ length bra) where
+    module _ (v : fields form * m ≤ length bra) where
       pub write-entry : (i j : ℕ) → firstFault (entryFault inj) n ≡ At i j → refusal 4 ≡ check
       unfolding writeCheck
-      write-entry i j e = sym (rw (o, le-ltb (length inj) n u, le-ltb (length bra) (4 * m) v, e) refl)
+      write-entry i j e = sym (rw (o, le-ltb (length inj) n u, le-ltb (length bra) (fields form * m) v, e) refl)
 
       module _ (e : firstFault (entryFault inj) n ≡ Sound) where
-        pub write-row : (i j : ℕ) → firstFault (rowFault n bra) m ≡ At i j → refusal 5 ≡ check
+        pub write-row : (i j : ℕ) → firstFault (rowFault form n bra) m ≡ At i j → refusal 5 ≡ check
         unfolding writeCheck
-        write-row i j f = sym (rw (o, le-ltb (length inj) n u, le-ltb (length bra) (4 * m) v, e, f) refl)
+        write-row i j f = sym (rw (o, le-ltb (length inj) n u, le-ltb (length bra) (fields form * m) v, e, f) refl)
 
-        module _ (f : firstFault (rowFault n bra) m ≡ Sound) where
+        module _ (f : firstFault (rowFault form n bra) m ≡ Sound) where
           pub write-sum : balances n (entry inj) ≡ false → refusal 7 ≡ check
           unfolding writeCheck
-          write-sum b = sym (rw (o, le-ltb (length inj) n u, le-ltb (length bra) (4 * m) v, e, f, b) refl)
+          write-sum b = sym (rw (o, le-ltb (length inj) n u, le-ltb (length bra) (fields form * m) v, e, f, b) refl)
 
-          module _ (b : balances n (entry inj) ≡ true) (x : ℕ) (is : x ≡ bytesFor n m) where
+          module _ (b : balances n (entry inj) ≡ true) (x : ℕ) (is : x ≡ bytesFor form n m) where
             pub write-room : room < x → refusal 8 ≡ check
             unfolding writeCheck
-            write-room l = let l′ : room < bytesFor n m = omega arith in sym (rw (o, le-ltb (length inj) n u, le-ltb (length bra) (4 * m) v, e, f, b, lt-ltb room (bytesFor n m) l′) refl)
+            write-room l = let l′ : room < bytesFor form n m = omega arith in sym (rw (o, le-ltb (length inj) n u, le-ltb (length bra) (fields form * m) v, e, f, b, lt-ltb room (bytesFor form n m) l′) refl)
 
             pub write-good : x ≤ room → Accepted ≡ check
             unfolding writeCheck
-            write-good l = let l′ : bytesFor n m ≤ room = omega arith in sym (rw (o, le-ltb (length inj) n u, le-ltb (length bra) (4 * m) v, e, f, b, le-ltb room (bytesFor n m) l′) refl)
+            write-good l = let l′ : bytesFor form n m ≤ room = omega arith in sym (rw (o, le-ltb (length inj) n u, le-ltb (length bra) (fields form * m) v, e, f, b, le-ltb room (bytesFor form n m) l′) refl)
 
-  pub write-accepted : check ≡ Accepted → Writable n m factor inj bra room
+  pub write-accepted : check ≡ Accepted → Writable form n m factor inj bra room
   unfolding writeCheck
   write-accepted a =
       let p₁ = past (outside n m factor) 2 _ a in
-      let p₂ = past (ltb (length inj) n || ltb (length bra) (4 * m)) 8 _ (p₁ .1) in
-      let q = either-false (ltb (length inj) n) (ltb (length bra) (4 * m)) (p₂ .0) in
+      let p₂ = past (ltb (length inj) n || ltb (length bra) (fields form * m)) 8 _ (p₁ .1) in
+      let q = either-false (ltb (length inj) n) (ltb (length bra) (fields form * m)) (p₂ .0) in
       let p₃ = past-fault (firstFault (entryFault inj) n) 4 _ (p₂ .1) in
-      let p₄ = past-fault (firstFault (rowFault n bra) m) 5 _ (p₃ .1) in
+      let p₄ = past-fault (firstFault (rowFault form n bra) m) 5 _ (p₃ .1) in
       let p₅ = past (not (balances n (entry inj))) 7 _ (p₄ .1) in
-      let p₆ = past (ltb room (bytesFor n m)) 8 _ (p₅ .1) in
+      let p₆ = past (ltb room (bytesFor form n m)) 8 _ (p₅ .1) in
       record {
         range = in-range n m factor (p₁ .0);
         injections-long = ltb-false (length inj) n (q .0);
-        branches-long = ltb-false (length bra) (4 * m) (q .1);
+        branches-long = ltb-false (length bra) (fields form * m) (q .1);
         entries = p₃ .0;
         rows = p₄ .0;
         level = not-false _ (p₅ .0);
-        fits = ltb-false room (bytesFor n m) (p₆ .0);
+        fits = ltb-false room (bytesFor form n m) (p₆ .0);
       }
 
-  pub accepted-write : Writable n m factor inj bra room → check ≡ Accepted
-  accepted-write w = sym (write-good (range-in n m factor (w .range)) (w .injections-long) (w .branches-long) (w .entries) (w .rows) (w .level) (bytesFor n m) refl (w .fits))
+  pub accepted-write : Writable form n m factor inj bra room → check ≡ Accepted
+  accepted-write w = sym (write-good (range-in n m factor (w .range)) (w .injections-long) (w .branches-long) (w .entries) (w .rows) (w .level) (bytesFor form n m) refl (w .fits))
 
 -- ---- the book of the tables
 
-module _ (n m factor : ℕ) (inj : List ℤ) (bra : List ℕ) where
+module _ (form : Form) (n m factor : ℕ) (inj : List ℤ) (bra : List ℕ) where
   abbrev b : Book
-  b = bookFrom n m factor inj bra
+  b = bookFrom form n m factor inj bra
 
   pub buses-from : buses b ≡ n
   unfolding bookFrom
@@ -113,7 +115,11 @@ module _ (n m factor : ℕ) (inj : List ℤ) (bra : List ℕ) where
 
   pub count-from : count b ≡ m
   unfolding bookFrom
-  count-from = length-upTo m (rowAt bra)
+  count-from = length-upTo m (rowAt form bra)
+
+  pub form-from : b .form ≡ form
+  unfolding bookFrom
+  form-from = refl
 
   pub factor-from : b .factor ≡ factor
   unfolding bookFrom
@@ -123,39 +129,39 @@ module _ (n m factor : ℕ) (inj : List ℤ) (bra : List ℕ) where
   unfolding bookFrom
   injection-from k h = getD-upTo n (entry inj) k (pos 0) h
 
-  pub branch-from : (k : ℕ) → k < m → branch b k ≡ rowAt bra k
+  pub branch-from : (k : ℕ) → k < m → branch b k ≡ rowAt form bra k
   unfolding bookFrom
-  branch-from k h = getD-upTo m (rowAt bra) k noBranch h
+  branch-from k h = getD-upTo m (rowAt form bra) k noBranch h
 
-  encode-from : encode b ≡ packed (n ∷ m ∷ factor ∷ 0 ∷ []) (λ k. busValues (entry inj k)) n (λ k. branchValues (rowAt bra k)) m
+  encode-from : encode b ≡ packed (branchWidths form) (n ∷ m ∷ factor ∷ formBit form ∷ 0 ∷ []) (λ k. busValues (entry inj k)) n (λ k. branchValues form (rowAt form bra k)) m
   encode-from =
-      encode-as b n m buses-from count-from
-      ∙ packed-same (n ∷ m ∷ b .factor ∷ 0 ∷ []) (λ k. busValues (injection b k)) (λ k. busValues (entry inj k)) n (λ k. branchValues (branch b k)) (λ k. branchValues (rowAt bra k)) m
-      (λ k h. ap busValues (injection-from k h)) (λ k h. ap branchValues (branch-from k h))
-      ∙ ap (λ (f : ℕ). packed (n ∷ m ∷ f ∷ 0 ∷ []) (λ k. busValues (entry inj k)) n (λ k. branchValues (rowAt bra k)) m) factor-from
+      encode-as b form n m form-from buses-from count-from
+      ∙ packed-same (branchWidths form) (n ∷ m ∷ b .factor ∷ formBit form ∷ 0 ∷ []) (λ k. busValues (injection b k)) (λ k. busValues (entry inj k)) n (λ k. branchValues form (branch b k)) (λ k. branchValues form (rowAt form bra k)) m
+      (λ k h. ap busValues (injection-from k h)) (λ k h. ap (branchValues form) (branch-from k h))
+      ∙ ap (λ (f : ℕ). packed (branchWidths form) (n ∷ m ∷ f ∷ formBit form ∷ 0 ∷ []) (λ k. busValues (entry inj k)) n (λ k. branchValues form (rowAt form bra k)) m) factor-from
 
   -- Zeros, then the header's fields, the buses and the branches, are the book's bytes.
-  pub written : (out z₀ z₁ z₂ z₃ : List ℕ) → length out ≡ bytesFor n m → z₀ ≡ replicate (length out) 0
-      → z₁ ≡ puts z₀ 0 headWidths (n ∷ m ∷ factor ∷ 0 ∷ [])
+  pub written : (out z₀ z₁ z₂ z₃ : List ℕ) → length out ≡ bytesFor form n m → z₀ ≡ replicate (length out) 0
+      → z₁ ≡ puts z₀ 0 headWidths (n ∷ m ∷ factor ∷ formBit form ∷ 0 ∷ [])
       → z₂ ≡ putItems busWidths z₁ busStart (λ k. busValues (entry inj k)) n
-      → z₃ ≡ putItems branchWidths z₂ (branchStart n) (λ k. branchValues (rowAt bra k)) m
+      → z₃ ≡ putItems (branchWidths form) z₂ (branchStart n) (λ k. branchValues form (rowAt form bra k)) m
       → z₃ ≡ encode b
   unfolding packed
   written out z₀ z₁ z₂ z₃ l e₀ e₁ e₂ e₃ = e₃ ∙ rw (e₂, e₁, e₀, l) refl ∙ sym encode-from
 
 -- ---- the ways in which writing a book ends
 
-module _ (n m factor : ℕ) (inj : List ℤ) (bra out : List ℕ) (o : Outcome) (is : o ≡ writeCheck n m factor inj bra (length out)) where
-  pub write-refused : (r : Answer) → (o ≡ Accepted → ⊥) → r ≡ bare o → BookWritten n m factor inj bra out out r
-  write-refused r a q = record { answer = write-said n m factor inj bra (length out) (q ∙ ap bare is); left = sym (rw (← is) (leaves o out _ a)) }
+module _ (form : Form) (n m factor : ℕ) (inj : List ℤ) (bra out : List ℕ) (o : Outcome) (is : o ≡ writeCheck form n m factor inj bra (length out)) where
+  pub write-refused : (r : Answer) → (o ≡ Accepted → ⊥) → r ≡ bare o → BookWritten form n m factor inj bra out out r
+  write-refused r a q = record { answer = write-said form n m factor inj bra (length out) (q ∙ ap bare is); left = sym (rw (← is) (leaves o out _ a)) }
 
   module _ (a : o ≡ Accepted) where
-    pub writable : Writable n m factor inj bra (length out)
-    writable = write-accepted n m factor inj bra (length out) (sym is ∙ a)
+    pub writable : Writable form n m factor inj bra (length out)
+    writable = write-accepted form n m factor inj bra (length out) (sym is ∙ a)
 
     -- The exact length is room enough.
-    pub exact-fits : (part : List ℕ) → length part ≡ bytesFor n m → writeCheck n m factor inj bra (length part) ≡ Accepted
-    exact-fits part l = accepted-write n m factor inj bra (length part) (record {
+    pub exact-fits : (part : List ℕ) → length part ≡ bytesFor form n m → writeCheck form n m factor inj bra (length part) ≡ Accepted
+    exact-fits part l = accepted-write form n m factor inj bra (length part) (record {
       range = writable .range;
       injections-long = writable .injections-long;
       branches-long = writable .branches-long;
@@ -165,6 +171,6 @@ module _ (n m factor : ℕ) (inj : List ℤ) (bra out : List ℕ) (o : Outcome) 
       fits = omega arith;
     })
 
-    pub write-done : (end : ℕ) (new : List ℕ) (r : Answer) → end ≡ bytesFor n m → new ≡ encode (bookFrom n m factor inj bra) → r ≡ bare o
-        → BookWritten n m factor inj bra out (new ++ drop end out) r
-    write-done end new r e q s = record { answer = write-said n m factor inj bra (length out) (s ∙ ap bare is); left = rw (← is, a, e, q) refl }
+    pub write-done : (end : ℕ) (new : List ℕ) (r : Answer) → end ≡ bytesFor form n m → new ≡ encode (bookFrom form n m factor inj bra) → r ≡ bare o
+        → BookWritten form n m factor inj bra out (new ++ drop end out) r
+    write-done end new r e q s = record { answer = write-said form n m factor inj bra (length out) (s ∙ ap bare is); left = rw (← is, a, e, q) refl }

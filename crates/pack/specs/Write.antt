@@ -11,8 +11,9 @@ use Rattle.answer.specs.declared.Outcome.the-variants.{Accepted}
 use Rattle.answer.specs.declared.Answer.{Answer}
 use Rattle.answer.specs.Answer.{numberOf, noGroup, Said, refuseIf, settled}
 use Rattle.rows.specs.Row.{nth, upTo}
-use Rattle.quantity.specs.Rating.{inKva}
+use Rattle.layout.specs.declared.Form.{Form}
 use Rattle.layout.specs.declared.Branch.{Branch}
+use Rattle.layout.specs.Form.{fields, branchOf}
 use Rattle.layout.specs.Book.{Book}
 use Rattle.layout.specs.Fault.{busFault, branchFault, firstFault}
 use Rattle.layout.specs.Layout.{bytesFor, busValues, encode}
@@ -22,44 +23,41 @@ use Rattle.layout.specs.Check.{outside, refuseAt, balances}
 abbrev pub entry : List ℤ → ℕ → ℤ
 entry injections k = getD injections k (pos 0)
 
-abbrev pub rowAt : List ℕ → ℕ → Branch
-rowAt branches k = record {
-  first = nth branches (4 * k);
-  second = nth branches (4 * k + 1);
-  kva = inKva (nth branches (4 * k + 2));
-  status = nth branches (4 * k + 3);
-}
+abbrev pub rowAt : Form → List ℕ → ℕ → Branch
+rowAt f branches k = branchOf f (λ i. nth branches (fields f * k + i))
 
--- The book of n buses and m branches that the tables hold.
-unfoldable pub bookFrom : ℕ → ℕ → ℕ → List ℤ → List ℕ → Book
-bookFrom n m power injections branches = record {
+-- The book in form f, of n buses and m branches, that the tables hold.
+unfoldable pub bookFrom : Form → ℕ → ℕ → ℕ → List ℤ → List ℕ → Book
+bookFrom f n m power injections branches = record {
+  form = f;
   factor = power;
   injections = upTo n (entry injections);
-  branches = upTo m (rowAt branches);
+  branches = upTo m (rowAt f branches);
 }
 
 abbrev pub entryFault : List ℤ → ℕ → ℕ
 entryFault injections k = busFault (nth (busValues (entry injections k)) 0) (nth (busValues (entry injections k)) 1)
 
-abbrev pub rowFault : ℕ → List ℕ → ℕ → ℕ
-rowFault n branches k = branchFault n (rowAt branches k)
+abbrev pub rowFault : Form → ℕ → List ℕ → ℕ → ℕ
+rowFault f n branches k = branchFault f n (rowAt f branches k)
 
--- Refusals of the writer: 2, then 8 for its source tables, then 4, 5, 7, then 8 for its output.
-unfoldable pub writeCheck : ℕ → ℕ → ℕ → List ℤ → List ℕ → ℕ → Outcome
-writeCheck n m factor injections branches room =
+-- Refusals of the writer: 2, then 8 for its source tables, then 4, 5, 7, then 8 for its output; how long these must be is by the form asked for.
+unfoldable pub writeCheck : Form → ℕ → ℕ → ℕ → List ℤ → List ℕ → ℕ → Outcome
+writeCheck f n m factor injections branches room =
     refuseIf (outside n m factor) 2
-    (refuseIf (ltb (length injections) n || ltb (length branches) (4 * m)) 8
+    (refuseIf (ltb (length injections) n || ltb (length branches) (fields f * m)) 8
     (refuseAt (firstFault (entryFault injections) n) 4
-    (refuseAt (firstFault (rowFault n branches) m) 5
+    (refuseAt (firstFault (rowFault f n branches) m) 5
     (refuseIf (not (balances n (entry injections))) 7
-    (refuseIf (ltb room (bytesFor n m)) 8
+    (refuseIf (ltb room (bytesFor f n m)) 8
     Accepted)))))
 
 abbrev pub writeNumbers : List ℕ
 writeNumbers = 2 ∷ 4 ∷ 5 ∷ 7 ∷ 8 ∷ []
 
--- The answer to writing the tables' book into lent bytes, and every byte that these then hold.
-pub record BookWritten (n m factor : ℕ) (injections : List ℤ) (branches out out′ : List ℕ) (r : Answer) : Type 0 where
-  pub answer : Said r (numberOf (writeCheck n m factor injections branches (length out))) 0 noGroup
+-- The answer to writing the tables' book in form f into lent bytes, and every byte that these then hold.
+pub record BookWritten (f : Form) (n m factor : ℕ) (injections : List ℤ) (branches out out′ : List ℕ) (r : Answer) : Type 0 where
+  pub answer : Said r (numberOf (writeCheck f n m factor injections branches (length out))) 0 noGroup
   pub left : out′
-      ≡ settled (writeCheck n m factor injections branches (length out)) out (encode (bookFrom n m factor injections branches) ++ drop (bytesFor n m) out)
+      ≡ settled (writeCheck f n m factor injections branches (length out)) out
+      (encode (bookFrom f n m factor injections branches) ++ drop (bytesFor f n m) out)

@@ -9,7 +9,8 @@ ghost use Rattle.bits.specs.Fields.{putItems};
 ghost use Rattle.layout.specs.declared.Fault.the-variants.{Sound};
 ghost use Rattle.layout.specs.Book.{size};
 ghost use Rattle.layout.specs.Fault.{firstFault};
-ghost use Rattle.layout.specs.Layout.{busWidths, branchWidths, busStart, branchStart, bytesFor, busValues, branchValues, encode};
+ghost use Rattle.layout.specs.Form.{branchWidths, fields, branchValues};
+ghost use Rattle.layout.specs.Layout.{busWidths, busStart, branchStart, bytesFor, busValues, encode};
 ghost use Rattle.layout.specs.Inside.{busFrom};
 ghost use Rattle.layout.specs.Check.{balances};
 ghost use Rattle.pack.specs.Write.{entry, rowAt, bookFrom, entryFault, rowFault, writeCheck, BookWritten};
@@ -18,6 +19,7 @@ use answer::Outcome;
 use layout::Branch;
 use layout::Bus;
 use layout::Fault;
+use layout::Form;
 use layout::Head;
 use layout::Sums;
 use quantity::Kva;
@@ -58,27 +60,30 @@ fn first_entry_fault(injections: &[i32], buses: usize) -> Fault
     Fault::Sound
 }
 
-// Branch k of the table.
-fn row_at(branches: &[u32], k: usize) -> Branch
-    requires { ⌜ (k < 256) × (4 * k + 4 ≤ length (now branches)) ⌝ }
-    ensures { λ r. ⌜ r ≡ rowAt (now (branches .entry)) k ⌝ }
+// Branch k of the table. The second kVA is the number before the status: in the old form that is the first.
+fn row_at(branches: &[u32], form: Form, k: usize) -> Branch
+    requires { ⌜ (k < 256) × (fields form * k + fields form ≤ length (now branches)) ⌝ }
+    ensures { λ r. ⌜ r ≡ rowAt form (now (branches .entry)) k ⌝ }
 {
-    let at = 4 * k;
+    let at = layout::numbers(form, k);
+    let last = at + (layout::fields(form) - 1);
     let kva = Kva(branches[at + 2]);
+    let kva2 = Kva(branches[last - 1]);
     Branch {
         first: branches[at],
         second: branches[at + 1],
         kva,
-        status: branches[at + 3],
+        kva2,
+        status: branches[last],
     }
 }
 
-fn first_row_fault(branches: &[u32], buses: usize, count: usize) -> Fault
-    requires { ⌜ (count ≤ 256) × (4 * count ≤ length (now branches)) ⌝ }
-    ensures { λ r. ⌜ r ≡ firstFault (rowFault buses (now (branches .entry))) count ⌝ }
+fn first_row_fault(branches: &[u32], form: Form, buses: usize, count: usize) -> Fault
+    requires { ⌜ (count ≤ 256) × (fields form * count ≤ length (now branches)) ⌝ }
+    ensures { λ r. ⌜ r ≡ firstFault (rowFault form buses (now (branches .entry))) count ⌝ }
 {
     for k in 0..count {
-        let field = layout::branch_fault(buses, row_at(branches, k));
+        let field = layout::branch_fault(form, buses, row_at(branches, form, k));
         if field != 0 {
             return Fault::At { item: k, field };
         }
@@ -103,6 +108,7 @@ fn is_balanced(injections: &[i32], buses: usize) -> bool
 
 // The writer's refusals, for so many bytes of output.
 fn check_tables(
+    form: Form,
     buses: usize,
     count: usize,
     factor: u32,
@@ -110,7 +116,7 @@ fn check_tables(
     branches: &[u32],
     room: usize,
 ) -> Outcome
-    ensures { λ r. ⌜ r ≡ writeCheck buses count factor (now (injections .entry)) (now (branches .entry)) room ⌝ }
+    ensures { λ r. ⌜ r ≡ writeCheck form buses count factor (now (injections .entry)) (now (branches .entry)) room ⌝ }
 {
     if layout::is_outside(buses, count, factor) {
         return answer::refuse(2);
@@ -118,27 +124,28 @@ fn check_tables(
     if injections.len() < buses {
         return answer::refuse(8);
     }
-    if branches.len() < 4 * count {
+    if branches.len() < layout::numbers(form, count) {
         return answer::refuse(8);
     }
     let bus = first_entry_fault(injections, buses);
     if let Fault::At { item: _, field: _ } = bus {
         return answer::refuse(4);
     }
-    let branch = first_row_fault(branches, buses, count);
+    let branch = first_row_fault(branches, form, buses, count);
     if let Fault::At { item: _, field: _ } = branch {
         return answer::refuse(5);
     }
     if !is_balanced(injections, buses) {
         return answer::refuse(7);
     }
-    if room < layout::bytes_for(buses, count) {
+    if room < layout::bytes_for(form, buses, count) {
         return answer::refuse(8);
     }
     Outcome::Accepted
 }
 
-fn clear(out: &mut [u8])
+// Zeros, for fields to be put into.
+pub fn clear(out: &mut [u8])
     ensures { λ _. ⌜ now (out .exit) ≡ replicate (length (now (out .entry))) 0 ⌝ }
 {
     for i in 0..out.len() {
@@ -155,29 +162,31 @@ fn put_buses(out: &mut [u8], buses: usize, injections: &[i32])
     }
 }
 
-fn put_branches(out: &mut [u8], buses: usize, count: usize, branches: &[u32])
-    requires { ⌜ (buses ≤ 128) × (count ≤ 256) × (4 * count ≤ length (now branches)) ⌝ }
-    ensures { λ _. ⌜ now (out .exit) ≡ putItems branchWidths (now (out .entry)) (branchStart buses) (λ k. branchValues (rowAt (now (branches .entry)) k)) count ⌝ }
+fn put_branches(out: &mut [u8], form: Form, buses: usize, count: usize, branches: &[u32])
+    requires { ⌜ (buses ≤ 128) × (count ≤ 256) × (fields form * count ≤ length (now branches)) ⌝ }
+    ensures { λ _. ⌜ now (out .exit) ≡ putItems (branchWidths form) (now (out .entry)) (branchStart buses) (λ k. branchValues form (rowAt form (now (branches .entry)) k)) count ⌝ }
 {
     for k in 0..count {
-        layout::put_branch(out, buses, k, row_at(branches, k));
+        layout::put_branch(out, form, buses, k, row_at(branches, form, k));
     }
 }
 
 // The book of accepted tables, into a row of exactly its length.
 fn pack_into(
     out: &mut [u8],
+    form: Form,
     buses: usize,
     count: usize,
     factor: u32,
     injections: &[i32],
     branches: &[u32],
 )
-    requires { ⌜ (length (now out) ≡ bytesFor buses count) × (writeCheck buses count factor (now injections) (now branches) (length (now out)) ≡ Accepted) ⌝ }
-    ensures { λ _. ⌜ now (out .exit) ≡ encode (bookFrom buses count factor (now (injections .entry)) (now (branches .entry))) ⌝ }
+    requires { ⌜ (length (now out) ≡ bytesFor form buses count) × (writeCheck form buses count factor (now injections) (now branches) (length (now out)) ≡ Accepted) ⌝ }
+    ensures { λ _. ⌜ now (out .exit) ≡ encode (bookFrom form buses count factor (now (injections .entry)) (now (branches .entry))) ⌝ }
 {
     clear(out);
     let h = Head {
+        form,
         buses,
         branches: count,
         factor,
@@ -185,11 +194,12 @@ fn pack_into(
     };
     layout::put_head(out, h);
     put_buses(out, buses, injections);
-    put_branches(out, buses, count, branches);
+    put_branches(out, form, buses, count, branches);
 }
 
-// The tables' book, into lent bytes: refusals 2, 8, 4, 5, 7, 8.
+// The tables' book in the form asked for, into lent bytes: refusals 2, 8, 4, 5, 7, 8.
 pub fn write_book(
+    form: Form,
     buses: usize,
     count: usize,
     factor: u32,
@@ -197,13 +207,21 @@ pub fn write_book(
     branches: &[u32],
     out: &mut [u8],
 ) -> Answer
-    ensures { λ r. ⌜ BookWritten buses count factor (now (injections .entry)) (now (branches .entry)) (now (out .entry)) (now (out .exit)) r ⌝ }
+    ensures { λ r. ⌜ BookWritten form buses count factor (now (injections .entry)) (now (branches .entry)) (now (out .entry)) (now (out .exit)) r ⌝ }
 {
-    let found = check_tables(buses, count, factor, injections, branches, out.len());
+    let found = check_tables(form, buses, count, factor, injections, branches, out.len());
     let Outcome::Accepted = found else {
         return answer::answer_with(found);
     };
-    let end = layout::bytes_for(buses, count);
-    pack_into(&mut out[..end], buses, count, factor, injections, branches);
+    let end = layout::bytes_for(form, buses, count);
+    pack_into(
+        &mut out[..end],
+        form,
+        buses,
+        count,
+        factor,
+        injections,
+        branches,
+    );
     answer::answer_with(found)
 }

@@ -15,7 +15,7 @@ use Rattle.answer.proofs.Said.{said-accepted, said-refused}
 use Rattle.answer.proofs.Numbers.{gives-said}
 use Rattle.quantity.specs.Inside.{kwAt}
 use Rattle.bits.specs.Field.{setBit}
-use Rattle.layout.specs.Layout.{busesIn, statusBit}
+use Rattle.layout.specs.Layout.{statusBit}
 use Rattle.search.specs.declared.Latent.{Latent}
 use Rattle.verdict.specs.Case.{Case, back, on}
 use Rattle.state.specs.Case.{caseIn}
@@ -70,20 +70,19 @@ module _ (bs : List ℕ) (flow : List ℤ) (table : List ℕ) (b : ℕ) where
         poised-here = record { case = back C b; flow = on flow; state = state-here }
 
         pub ends-back : {bs′ table′ bits : List ℕ} {losses : ℕ} {r : Answer} → r ≡ accepted → Listing (q .wires .branches) (anewAt table b) bits
-            → bs′ ≡ setBit bs (statusBit (q .wires .buses) b) 1
+            → bs′ ≡ setBit bs (statusBit bs b) 1
             → ((D : Case) (f : ℕ → ℤ) → State D f (q .wires) served live left → Rewritten D f served bits table table′ losses)
             → BackEnds b (lent bs flow table) (lent bs′ flow table′) r
         ends-back {bs′} {table′} {bits} a list book-is fresh =
-            let i : bs′ ≡ setBit bs (statusBit (busesIn bs) b) 1 = book-is ∙ ap (λ (n : ℕ). setBit bs (statusBit n b) 1) (p .buses-are) in
             let c = restates bs b 1 (may .passes .book) (may .there) (omega arith) in
             let redone = fresh (back C b) (on flow) state-here .table-is in
             let bit : (k : ℕ) → k < C .branches → k < q .wires .branches = λ k u. omega (arith, p .held .branches-are) in
             let anew = renewed (back C b) (Anew table b) (state-here .fits) redone
             (λ k u h. list .bit k (bit k u) ∙ anew-listed table b k h) (λ k u h. list .bit k (bit k u) ∙ anew-unlisted table b k h) refl (λ k u. refl) in
             accepts ok (p .fitting e .fits) (rw a said-accepted) (record {
-              book-is = i;
-              book-accepted = rw i (c .book);
-              case-is = rw i (c .case-is);
+              book-is = book-is;
+              book-accepted = rw book-is (c .book);
+              case-is = rw book-is (c .case-is);
               flow-is = refl;
               own-is = comeback.own-back C (on flow) (q .wires) (q .served) (q .live) (q .latent) (p .fitting e) b there (may .out-now) (kwAt (q .limit) b) (p .limit-is b)
                   (served-is .long) (live-is .long) (ahead-is .long) (back-is .long) _ (anew .rewritten b there (itself refl));

@@ -7,7 +7,7 @@ use Rattle.answer.specs.declared.Outcome.{Outcome}
 use Rattle.answer.specs.declared.Outcome.the-variants.{Accepted}
 use Rattle.answer.specs.declared.Answer.{Answer}
 use Rattle.bits.specs.Field.{setBit}
-use Rattle.layout.specs.Layout.{busesIn, statusBit}
+use Rattle.layout.specs.Layout.{statusBit}
 use Rattle.layout.specs.Check.{checkOf}
 use Rattle.verdict.specs.Case.{back}
 use Rattle.verdict.specs.Record.{recordAt, verdictIn}
@@ -35,7 +35,7 @@ emptyRecord = 1 ∷ replicate 51 0
 -- An accepted call sets one status bit, changes no flow, gives the returned branch an empty reroute and verdict 1, and writes anew every record whose
 -- byte 0 isn't 1. Other records keep their bytes.
 pub record BroughtBack (b : ℕ) (before after : Lent) : Type 0 where
-  pub book-is : after .book ≡ setBit (before .book) (statusBit (busesIn (before .book)) b) 1
+  pub book-is : after .book ≡ setBit (before .book) (statusBit (before .book) b) 1
   pub book-accepted : checkOf (after .book) ≡ Accepted
   pub case-is : caseIn (after .book) ≡ back (caseIn (before .book)) b
   pub flow-is : after .flow ≡ before .flow

@@ -67,6 +67,6 @@ pub fn bring_back(book: &mut [u8], flow: &[i32], table: &mut [u8], branch: usize
     };
     let listed = anew(table, wires.branches, branch);
     state::rewrite(table, wires, served, limits, left, listed);
-    layout::set_status(book, wires.buses, branch, 1);
+    layout::set_status(book, branch, 1);
     answer::answer_with(Outcome::Accepted)
 }

@@ -112,6 +112,12 @@ pub and-false : (a : Bool) → a && false ≡ false
 and-false true = refl
 and-false false = refl
 
+-- Only the first n places matter.
+pub some-same : (n : ℕ) (p q : ℕ → Bool) → ((k : ℕ) → k < n → p k ≡ q k) → some n p ≡ some n q
+unfolding some
+some-same zero p q e = refl
+some-same (suc n) p q e = rw (some-same n p q (λ k l. e k (omega arith)), e n (omega arith)) refl
+
 module _ (p : ℕ → Bool) where
   pub some-none : some 0 p ≡ false
   unfolding some

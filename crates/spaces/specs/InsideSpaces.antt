@@ -34,13 +34,14 @@ pub data PlacesSet (letter : ℕ) (rest : List ℕ) (flow : List ℤ) (table : L
       → flow′ ≡ flow → table′ ≡ table → injections′ ≡ injections → branches′ ≡ branches
       → PlacesSet letter rest flow table injections branches flow′ table′ injections′ branches′ r
 
--- `P`: every flow, injection and branch number is 7777777, every table and book byte 170.
-pub record Spoilt (book : List ℕ) (flow : List ℤ) (table : List ℕ) (injections : List ℤ) (branches : List ℕ) : Type 0 where
+-- `P`: every flow, injection and branch number is 7777777, every table, book and shelf byte 170.
+pub record Spoilt (book : List ℕ) (flow : List ℤ) (table : List ℕ) (injections : List ℤ) (branches shelf : List ℕ) : Type 0 where
   pub book-is : book ≡ replicate 2100 170
   pub flow-is : flow ≡ replicate 256 (pos 7777777)
   pub table-is : table ≡ replicate 13312 170
   pub injections-is : injections ≡ replicate 128 (pos 7777777)
   pub branches-is : branches ≡ replicate 1280 7777777
+  pub shelf-is : shelf ≡ replicate 2100 170
 
 -- `B`: the stream has the count and so many bytes after it, and the book space holds them.
 abbrev pub bookReach : List ℕ → ℕ → Bool

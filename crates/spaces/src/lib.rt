@@ -28,14 +28,16 @@ pub fn spoil(
     table: &mut [u8; 13312],
     injections: &mut [i32; 128],
     branches: &mut [u32; 1280],
+    shelf: &mut [u8; 2100],
 )
-    ensures { λ _. ⌜ Spoilt (now (book .exit)) (now (flow .exit)) (now (table .exit)) (now (injections .exit)) (now (branches .exit)) ⌝ }
+    ensures { λ _. ⌜ Spoilt (now (book .exit)) (now (flow .exit)) (now (table .exit)) (now (injections .exit)) (now (branches .exit)) (now (shelf .exit)) ⌝ }
 {
     *book = [170u8; 2100];
     *flow = [7777777i32; 256];
     *table = [170u8; 13312];
     *injections = [7777777i32; 128];
     *branches = [7777777u32; 1280];
+    *shelf = [170u8; 2100];
 }
 
 pub fn set_book(rest: &[u8], book: &mut [u8], bytes: usize) -> Next

@@ -2,7 +2,7 @@
 use mathlib.Core.Path.{_≡_, refl, sym, ap, _∙_, fun-ext}
 use mathlib.Core.Bool.{true, cond}
 use mathlib.Core.List.{List}
-use Prim.Native.Nat.{ℕ, _+_, _*_, _<_}
+use Prim.Native.Nat.{ℕ, _+_, _-_, _<_}
 use native.Mathlib.Omega.{arith}
 use native.Mathlib.Decide.{ℕ-discrete}
 use borrow.Author.Tests.{eq-eqb, ne-eqb, eqb-true}
@@ -17,8 +17,11 @@ use Rattle.bits.proofs.ReadAsPut.{field-one}
 use Rattle.layout.specs.declared.Branch.{Branch}
 use Rattle.layout.specs.Book.{Book, count, branch, noBranch, restated}
 use Rattle.layout.specs.Book as book
-use Rattle.layout.specs.Layout.{busesIn, branchesIn, branchStart, statusBit, branchAt, bookOf}
+use Rattle.bits.specs.Fields.{total}
+use Rattle.layout.specs.Form.{branchWidths}
+use Rattle.layout.specs.Layout.{bitsFor, busesIn, branchesIn, formIn, statusBit, branchAt, bookOf}
 use Rattle.layout.specs.Check.{checkOf}
+use Rattle.layout.proofs.Forms.{status-read}
 use Rattle.layout.proofs.WellFormed.{count-of, branch-of}
 use Rattle.layout.proofs.StatusChanged.{status-accepted, status-book}
 use Rattle.verdict.specs.Case.{Case, withStatus}
@@ -78,9 +81,9 @@ pub record Restated (bs : List ℕ) (b v : ℕ) (bs′ : List ℕ) : Type 0 wher
   pub case-is : caseIn bs′ ≡ withStatus (caseIn bs) b (eqb v 1)
   pub count-is : branchesIn bs′ ≡ branchesIn bs
 
-pub restates : (bs : List ℕ) (b v : ℕ) → checkOf bs ≡ Accepted → b < branchesIn bs → v < 2 → Restated bs b v (setBit bs (statusBit (busesIn bs) b) v)
+pub restates : (bs : List ℕ) (b v : ℕ) → checkOf bs ≡ Accepted → b < branchesIn bs → v < 2 → Restated bs b v (setBit bs (statusBit bs b) v)
 restates bs b v e l u =
-    let bs′ = setBit bs (statusBit (busesIn bs) b) v in
+    let bs′ = setBit bs (statusBit bs b) v in
     let c : caseIn bs′ ≡ withStatus (caseIn bs) b (eqb v 1) = ap caseOf (status-book bs e b v l u) ∙ case-restatus (bookOf bs) b v (omega (arith, count-of bs)) in
     record {
       book = status-accepted bs e b v l u;
@@ -94,8 +97,7 @@ module _ (bs : List ℕ) (b : ℕ) (there : b < branchesIn bs) (in-service : cas
   unfolding caseOf
   served-status = ap (λ (x : Branch). x .status) (sym (branch-of bs b there)) ∙ eqb-true _ 1 in-service
 
-  pub served-bit : bitAt bs (statusBit (busesIn bs) b) ≡ 1
+  pub served-bit : bitAt bs (statusBit bs b) ≡ 1
   served-bit =
-      let p = branchStart (busesIn bs) + 35 * b in
-      let q : p + 7 + 7 + 20 ≡ statusBit (busesIn bs) b = omega arith in
-      rw (← q) (sym (field-one bs (p + 7 + 7 + 20)) ∙ served-status)
+      let p = bitsFor (formIn bs) (busesIn bs) b in
+      sym (field-one bs (p + (total (branchWidths (formIn bs)) - 1))) ∙ sym (status-read (formIn bs) bs p) ∙ served-status

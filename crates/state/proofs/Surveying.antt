@@ -9,7 +9,7 @@ use Rattle.rows.specs.Row.{nth}
 use Rattle.quantity.specs.Signed.{posPart, negPart}
 use Rattle.layout.specs.Book.{WellFormed}
 use Rattle.layout.specs.Layout.{branchesIn, bookOf}
-use Rattle.layout.proofs.WellFormed.{accepted-well, buses-of}
+use Rattle.layout.proofs.WellFormed.{accepted-well}
 use Rattle.book.specs.Inside.{RowsRead}
 use Rattle.book.specs.declared.CaseRows.{CaseRows}
 use Rattle.fit.specs.Inside.{Lendable, Fitted}
@@ -70,7 +70,6 @@ module _ (bs : List ℕ) (flow : List ℤ) (ok : Surveyable bs (length flow)) (r
         → Surveyed bs flow (record { wires = q .wires; served = q .served; limit = r .limit; live = q .live; fits = x .fits; latent = x .latent })
     surveyed x d = record {
       held = held-here;
-      buses-are = p .wiring .same-buses ∙ h .buses-are ∙ buses-of bs;
       branches-are = count-here;
       limit-is = limits-here;
       fitting = lending.fit-state (caseIn bs) (level-of bs) (q .wires) (q .served) (q .live) (q .gain) (q .load) held-here gains loads flow x d;

@@ -17,7 +17,7 @@ use Rattle.search.specs.declared.Wires.{Wires}
 use Rattle.search.specs.declared.Latent.{Latent}
 use Rattle.book.specs.declared.CaseRows.{CaseRows}
 use Rattle.answer.specs.declared.Outcome.the-variants.{Accepted}
-use Rattle.layout.specs.Layout.{busesIn, branchesIn}
+use Rattle.layout.specs.Layout.{branchesIn}
 use Rattle.layout.specs.Check.{checkOf}
 use Rattle.verdict.specs.Case.{Case, Posed, on, Fits}
 use Rattle.verdict.specs.Record.{recordAt, TrueRecord}
@@ -75,7 +75,6 @@ pub record Surveyable (bs : List ℕ) (flows : ℕ) : Type 0 where
 
 pub record Surveyed (bs : List ℕ) (flow : List ℤ) (r : Survey) : Type 0 where
   pub held : Held (caseIn bs) (r .wires) (r .served) (r .live)
-  pub buses-are : r .wires .buses ≡ busesIn bs
   pub branches-are : r .wires .branches ≡ branchesIn bs
   pub limit-is : (k : ℕ) → kwAt (r .limit) k ≡ caseIn bs .loss-limit k
   pub fitting : r .fits ≡ true → State (caseIn bs) (on flow) (r .wires) (r .served) (r .live) (r .latent)

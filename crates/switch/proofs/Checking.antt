@@ -12,9 +12,10 @@ use Rattle.answer.specs.declared.Outcome.{Outcome}
 use Rattle.answer.specs.declared.Outcome.the-variants.{Accepted}
 use Rattle.answer.proofs.Refusals.{past, past-both, stands}
 use Rattle.answer.proofs.Numbers.{Gives, gives-if, gives-then, inside, gives-more}
+use Rattle.layout.specs.declared.Form.{Form}
 use Rattle.layout.specs.declared.Branch.{Branch}
 use Rattle.layout.specs.Book.{branch}
-use Rattle.layout.specs.Layout.{busesIn, branchesIn, branchAfter, bookOf}
+use Rattle.layout.specs.Layout.{busesIn, branchesIn, formIn, branchAfter, bookOf}
 use Rattle.layout.specs.Check.{checkOf}
 use Rattle.layout.proofs.WellFormed.{accepted-well, branch-of, count-of}
 use Rattle.state.specs.Case.{caseOf, caseIn}
@@ -57,9 +58,9 @@ module _ (bs : List ℕ) (flows bytes b v n : ℕ) where
     unfolding branchCheck
     by-branch u = rw (ok, le-leb (branchesIn bs) b u) refl
 
-    module _ (u : b < branchesIn bs) (x : Branch) (m : ℕ) (q : m ≡ busesIn bs) (e : x ≡ branchAfter m bs b) where
+    module _ (u : b < branchesIn bs) (x : Branch) (f : Form) (m : ℕ) (o : f ≡ formIn bs) (q : m ≡ busesIn bs) (e : x ≡ branchAfter f m bs b) where
       status : branch (bookOf bs) b .status ≡ x .status
-      status = ap (λ (y : Branch). y .status) (branch-of bs b u ∙ ap (λ (i : ℕ). branchAfter i bs b) (sym q) ∙ sym e)
+      status = ap (λ (y : Branch). y .status) (branch-of bs b u ∙ sym (e ∙ rw (o, q) refl))
 
       pub by-status : x .status ≡ v → refusal n ≡ branchCheck bs flows bytes b v n
       unfolding branchCheck

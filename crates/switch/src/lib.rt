@@ -25,7 +25,8 @@ pub fn check(
     if head.branches <= branch {
         return answer::refuse(9);
     }
-    let x = layout::branch_at(book, head.buses, branch);
+    let form = head.form;
+    let x = layout::branch_at(book, form, head.buses, branch);
     if x.status == status {
         return answer::refuse(number);
     }

@@ -9,12 +9,14 @@ use lib.Seq.{take-at}
 use borrow.Rule.Slice.PartMut.{midOf, postOf, putMid, mid-len, drop-put}
 use Rattle.answer.specs.declared.Outcome.the-variants.{Accepted}
 use Rattle.answer.specs.declared.Answer.{Answer}
+use Rattle.layout.specs.declared.Form.{Form}
 use Rattle.layout.specs.Layout.{bytesFor}
 use Rattle.pack.specs.Write.{BookWritten}
 use Rattle.book.specs.Read.{BookRead}
+use Rattle.forms.specs.Move.{BookMoved}
 use Rattle.meters.specs.Registers.{Registers}
 use Rattle.meters.specs.Promise.{Metered}
-use Rattle.tables.specs.Inside.{ReadInto, WrittenInto, MeteredInto}
+use Rattle.tables.specs.Inside.{ReadInto, WrittenInto, MovedInto, MeteredInto}
 
 -- A space of which the first n places now hold `last`.
 pub record Part {A : Type 0} (n : ℕ) (t t′ last : List A) : Type 0 where
@@ -53,16 +55,24 @@ metered-into r registersOf {n = n} p e g h =
     let x : n - 0 ≡ n = omega arith in
     rw (← e, ← g) (record { answer = r; metered = rw (p .held) (rw x at h); kept = p .kept })
 
-module _ {n m factor : ℕ} {injections : List ℤ} {branches book book′ last : List ℕ} {room : ℕ} (bytes : ℕ) (r : Answer)
+pub moved-into : (r : Answer) (book : List ℕ) (n : ℕ) {f f′ : Form} {shelf shelf′ s : List ℕ} {c c′ : ℕ}
+    → Part c shelf shelf′ s → f ≡ f′ → c ≡ c′ → BookMoved (midOf 0 (n - 0) book) f (midOf 0 (c - 0) shelf) s r
+    → MovedInto (take n book) f′ c′ shelf shelf′
+moved-into r book n {c = c} p e g h =
+    let x : n - 0 ≡ n = omega arith in
+    let y : c - 0 ≡ c = omega arith in
+    rw (← e, ← g) (record { answer = r; moved = rw (p .held) (rw (x, y) at h); kept = p .kept })
+
+module _ {f : Form} {n m factor : ℕ} {injections : List ℤ} {branches book book′ last : List ℕ} {room : ℕ} (bytes : ℕ) (r : Answer)
     (p : Part room book book′ last)
-    (w : BookWritten n m factor injections branches (midOf 0 (room - 0) book) last r) where
-  same : BookWritten n m factor injections branches (take room book) (take room book′) r
+    (w : BookWritten f n m factor injections branches (midOf 0 (room - 0) book) last r) where
+  same : BookWritten f n m factor injections branches (take room book) (take room book′) r
   same =
       let x : room - 0 ≡ room = omega arith in
       rw (p .held) (rw x at w)
 
-  pub written-into : {length′ : ℕ} → r .outcome ≡ Accepted → length′ ≡ bytesFor n m → length′ ≤ length book
-      → WrittenInto n m factor injections branches room book bytes book′ length′
+  pub written-into : {length′ : ℕ} → r .outcome ≡ Accepted → length′ ≡ bytesFor f n m → length′ ≤ length book
+      → WrittenInto f n m factor injections branches room book bytes book′ length′
   written-into a e h = record {
     answer = r;
     written = same;
@@ -72,7 +82,7 @@ module _ {n m factor : ℕ} {injections : List ℤ} {branches book book′ last 
     within = h;
   }
 
-  pub not-written : (r .outcome ≡ Accepted → ⊥) → bytes ≤ length book → WrittenInto n m factor injections branches room book bytes book′ bytes
+  pub not-written : (r .outcome ≡ Accepted → ⊥) → bytes ≤ length book → WrittenInto f n m factor injections branches room book bytes book′ bytes
   not-written z h = record {
     answer = r;
     written = same;
@@ -82,11 +92,12 @@ module _ {n m factor : ℕ} {injections : List ℤ} {branches book book′ last 
     within = h;
   }
 
-pub written-as : {n m factor n′ m′ factor′ i j room i′ j′ room′ bytes length′ : ℕ} (injections : List ℤ) (branches : List ℕ) {book book′ : List ℕ}
+pub written-as : {f : Form} {n m factor n′ m′ factor′ i j room i′ j′ room′ bytes length′ : ℕ}
+    (injections : List ℤ) (branches : List ℕ) {book book′ : List ℕ}
     → n ≡ n′ → m ≡ m′ → factor ≡ factor′ → i ≡ i′ → j ≡ j′ → room ≡ room′
-    → WrittenInto n m factor (midOf 0 (i - 0) injections) (midOf 0 (j - 0) branches) room book bytes book′ length′
-    → WrittenInto n′ m′ factor′ (take i′ injections) (take j′ branches) room′ book bytes book′ length′
-written-as {i = i} {j} injections branches a b c d e f w =
+    → WrittenInto f n m factor (midOf 0 (i - 0) injections) (midOf 0 (j - 0) branches) room book bytes book′ length′
+    → WrittenInto f n′ m′ factor′ (take i′ injections) (take j′ branches) room′ book bytes book′ length′
+written-as {i = i} {j} injections branches a b c d e g w =
     let x : i - 0 ≡ i = omega arith in
     let y : j - 0 ≡ j = omega arith in
-    rw (← a, ← b, ← c, ← d, ← e, ← f) (rw (x, y) at w)
+    rw (← a, ← b, ← c, ← d, ← e, ← g) (rw (x, y) at w)

@@ -1,4 +1,5 @@
 pub mod LentFromStart
 pub mod MeterCommand
+pub mod MoveCommand
 pub mod WriteNumbers
 pub mod Written

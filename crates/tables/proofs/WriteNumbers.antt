@@ -1,4 +1,4 @@
--- The numbers of `W` in turn: where all are good they are the six that stand after its letter.
+-- The numbers of `W` and `X` in turn: where all are good they are the six that stand after its letter.
 use mathlib.Core.Path.{_≡_}
 use mathlib.Core.Bool.{true, false, cond, _&&_}
 use mathlib.Core.List.{List}
@@ -11,7 +11,7 @@ use Rattle.spaces.proofs.NumbersInTurn.{next-end, next-value, all-good, one-bad
 use Rattle.tables.specs.declared.Head.{Head}
 use Rattle.tables.specs.Inside.{headGood, HeadAsked, writeGood}
 
--- The six numbers of `W`, three of them its head.
+-- The six numbers of `W` and `X`, three of them its head.
 pub record WriteAsked (rest : List ℕ) (i j k : ℕ) (h : Head) (a b c : Number) : Type 0 where
   pub fine : writeGood rest i j k ≡ true
   pub buses-is : h .buses ≡ twoAt rest 1

@@ -1,4 +1,5 @@
--- What the commands on tables do. Their numbers are good, and the call is made on parts of the spaces, all else being as it was; or nothing is changed.
+-- What the commands on tables and books do: their numbers are good, and the call is made on parts of the spaces, all else being as it was; or
+-- nothing is changed.
 use mathlib.Core.Path.{_≡_}
 use mathlib.Core.Bool.{Bool, true, false, cond, _&&_}
 use mathlib.Core.List.{List}
@@ -9,9 +10,12 @@ use lib.ListN.{length, take, drop}
 use Rattle.rows.specs.Row.{nth, twoAt, upTo}
 use Rattle.answer.specs.declared.Outcome.the-variants.{Accepted}
 use Rattle.answer.specs.declared.Answer.{Answer}
+use Rattle.layout.specs.declared.Form.{Form}
+use Rattle.layout.specs.Form.{formOf}
 use Rattle.layout.specs.Layout.{bytesFor}
 use Rattle.pack.specs.Write.{BookWritten}
 use Rattle.book.specs.Read.{BookRead}
+use Rattle.forms.specs.Move.{BookMoved}
 use Rattle.meters.specs.Registers.{Registers, registers}
 use Rattle.meters.specs.Promise.{Metered}
 use Rattle.spaces.specs.declared.Next.{Next}
@@ -37,13 +41,13 @@ ReadRun rest bs injections injections′ branches branches′ r =
     Runs (good rest 1 (length injections) && good rest 3 (length branches)) 5
     (ReadInto bs (twoAt rest 1) (twoAt rest 3) injections injections′ branches branches′) ((injections′ ≡ injections) × (branches′ ≡ branches)) r
 
--- ---- `W`: a book is written into the first bytes of the space; accepted, it has the written length, else the one that it had.
-pub record WrittenInto (n m factor : ℕ) (injections : List ℤ) (branches : List ℕ)
+-- ---- `W` and `X`: a book in form f is written into the first bytes of the space; accepted, it has the written length, else the one that it had.
+pub record WrittenInto (f : Form) (n m factor : ℕ) (injections : List ℤ) (branches : List ℕ)
     (room : ℕ) (book : List ℕ) (bytes : ℕ) (book′ : List ℕ) (bytes′ : ℕ) : Type 0 where
   pub answer : Answer
-  pub written : BookWritten n m factor injections branches (take room book) (take room book′) answer
+  pub written : BookWritten f n m factor injections branches (take room book) (take room book′) answer
   pub kept : drop room book′ ≡ drop room book
-  pub if-accepted : answer .outcome ≡ Accepted → bytes′ ≡ bytesFor n m
+  pub if-accepted : answer .outcome ≡ Accepted → bytes′ ≡ bytesFor f n m
   pub if-refused : (answer .outcome ≡ Accepted → ⊥) → bytes′ ≡ bytes
   pub within : bytes′ ≤ length book
 
@@ -61,12 +65,26 @@ pub record HeadAsked (rest : List ℕ) (h : Head) : Type 0 where
 abbrev pub writeGood : List ℕ → ℕ → ℕ → ℕ → Bool
 writeGood rest injections branches book = ((headGood rest && good rest 7 injections) && good rest 9 branches) && good rest 11 book
 
-abbrev pub WriteRun : List ℕ → List ℤ → List ℕ → List ℕ → ℕ → List ℕ → Next → Type 0
-WriteRun rest injections branches book bytes book′ r =
+abbrev pub WriteRun : Form → List ℕ → List ℤ → List ℕ → List ℕ → ℕ → List ℕ → Next → Type 0
+WriteRun f rest injections branches book bytes book′ r =
     Runs (writeGood rest (length injections) (length branches) (length book)) 13
-    (WrittenInto (twoAt rest 1) (twoAt rest 3) (twoAt rest 5) (take (twoAt rest 7) injections) (take (twoAt rest 9) branches) (twoAt rest 11)
+    (WrittenInto f (twoAt rest 1) (twoAt rest 3) (twoAt rest 5) (take (twoAt rest 7) injections) (take (twoAt rest 9) branches) (twoAt rest 11)
     book bytes book′ (r .bytes))
     ((book′ ≡ book) × (r .bytes ≡ bytes)) (r .taken)
+
+-- ---- `L`: the book is moved to the form of a byte, 1 being new, into the first c bytes of the shelf.
+pub record MovedInto (bs : List ℕ) (f : Form) (c : ℕ) (shelf shelf′ : List ℕ) : Type 0 where
+  pub answer : Answer
+  pub moved : BookMoved bs f (take c shelf) (take c shelf′) answer
+  pub kept : drop c shelf′ ≡ drop c shelf
+
+-- The stream has all four bytes, the form's is no more than 1, and the number after it is not above the shelf.
+abbrev pub moveGood : List ℕ → ℕ → Bool
+moveGood rest shelf = leb 4 (length rest) && (leb (nth rest 1) 1 && leb (twoAt rest 2) shelf)
+
+abbrev pub MoveRun : List ℕ → List ℕ → List ℕ → List ℕ → ℕ → Type 0
+MoveRun rest bs shelf shelf′ r =
+    Runs (moveGood rest (length shelf)) 4 (MovedInto bs (formOf (nth rest 1)) (twoAt rest 2) shelf shelf′) (shelf′ ≡ shelf) r
 
 -- ---- `M`: four lengths, the lent count and the supply, a byte each, and then the readings, four bytes each.
 pub record ListsAsked (rest : List ℕ) (l : Lists) : Type 0 where

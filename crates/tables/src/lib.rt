@@ -1,17 +1,20 @@
-// Commands on the tables beside a book: it is read into them, written from them, and the injections come from meters. Each answers how many
-// bytes of the stream it took, and 0 where it is bad.
+// Commands on the tables beside a book, and on books alone: it is read into the tables, written from them in either form, moved to a form, and
+// the injections come from meters. Each answers how many bytes of the stream it took, and 0 where it is bad.
 ghost use mathlib.Core.Path.{_≡_};
 ghost use Prim.Native.Nat.{_+_, _*_, _<_, _≤_};
 ghost use lib.ListN.{length, take, replicate};
 ghost use Rattle.rows.specs.Row.{headed};
 ghost use Rattle.meters.specs.Promise.{Metered};
 ghost use Rattle.spaces.specs.InsideStream.{fourAt};
-ghost use Rattle.tables.specs.Inside.{ReadRun, WrittenInto, HeadAsked, WriteRun, ListsAsked, registersIn, MetersRun};
+ghost use Rattle.tables.specs.Inside.{ReadRun, WrittenInto, HeadAsked, WriteRun, MoveRun, ListsAsked, registersIn, MetersRun};
 use answer::Answer;
 use answer::Outcome;
+use layout::Form;
 use line::answer_line;
+use line::bytes_line;
 use line::numbers_line;
 use line::signed_line;
+use rows::two;
 use rows::wide;
 use spaces::Next;
 use spaces::four;
@@ -47,7 +50,7 @@ pub fn run_read(
     b.end
 }
 
-// The first numbers of `W`, and the place after them: 0 where one is bad.
+// The first numbers of `W` and `X`, and the place after them: 0 where one is bad.
 struct Head {
     buses: usize,
     count: usize,
@@ -72,6 +75,7 @@ fn head_of(rest: &[u8]) -> Head
 
 // Writes a book of lent tables into the first bytes of the space: accepted, the book has the written length.
 fn write(
+    form: Form,
     head: Head,
     room: usize,
     book: &mut [u8],
@@ -80,9 +84,10 @@ fn write(
     branches: &[u32],
 ) -> usize
     requires { ⌜ (room ≤ length (now book)) × (bytes ≤ length (now book)) ⌝ }
-    ensures { λ r. ⌜ WrittenInto (head .buses) (head .count) (head .factor) (now (injections .entry)) (now (branches .entry)) room (now (book .entry)) bytes (now (book .exit)) r ⌝ }
+    ensures { λ r. ⌜ WrittenInto form (head .buses) (head .count) (head .factor) (now (injections .entry)) (now (branches .entry)) room (now (book .entry)) bytes (now (book .exit)) r ⌝ }
 {
     let answer = pack::write_book(
+        form,
         head.buses,
         head.count,
         head.factor,
@@ -95,11 +100,12 @@ fn write(
     let Outcome::Accepted = outcome else {
         return bytes;
     };
-    layout::bytes_for(head.buses, head.count)
+    layout::bytes_for(form, head.buses, head.count)
 }
 
-// `W`.
+// `W` writes the old form, `X` the new one.
 pub fn run_write(
+    form: Form,
     rest: &[u8],
     book: &mut [u8],
     bytes: usize,
@@ -107,7 +113,7 @@ pub fn run_write(
     branches: &[u32],
 ) -> Next
     requires { ⌜ (0 < length (now rest)) × (bytes ≤ length (now book)) ⌝ }
-    ensures { λ r. ⌜ WriteRun (now (rest .entry)) (now (injections .entry)) (now (branches .entry)) (now (book .entry)) bytes (now (book .exit)) r ⌝ }
+    ensures { λ r. ⌜ WriteRun form (now (rest .entry)) (now (injections .entry)) (now (branches .entry)) (now (book .entry)) bytes (now (book .exit)) r ⌝ }
     ensures { λ r. ⌜ (r .taken ≤ length (now (rest .entry))) × (r .bytes ≤ length (now (book .entry))) ⌝ }
 {
     let head = head_of(rest);
@@ -120,6 +126,7 @@ pub fn run_write(
     let buses = a.value;
     let numbers = b.value;
     let held = write(
+        form,
         head,
         c.value,
         book,
@@ -131,6 +138,31 @@ pub fn run_write(
         taken: c.end,
         bytes: held,
     }
+}
+
+// `L`.
+pub fn run_move(rest: &[u8], book: &[u8], bytes: usize, shelf: &mut [u8]) -> usize
+    requires { ⌜ (bytes ≤ length (now book)) × (length (now shelf) ≤ 2100) ⌝ }
+    ensures { λ r. ⌜ MoveRun (now (rest .entry)) (take bytes (now (book .entry))) (now (shelf .entry)) (now (shelf .exit)) r ⌝ }
+    ensures { λ r. ⌜ r ≤ length (now (rest .entry)) ⌝ }
+{
+    if rest.len() < 4 {
+        return 0;
+    }
+    let byte = rest[1];
+    if 1 < byte {
+        return 0;
+    }
+    let room = two(rest, 2);
+    if shelf.len() < room {
+        return 0;
+    }
+    let form = layout::form_of(byte as u32);
+    let answer = forms::move_book(&book[0..bytes], form, &mut shelf[0..room]);
+    answer_line(b"moved", answer);
+    let mut out = [0u8; 4207];
+    bytes_line(&mut out, b"shelf", shelf);
+    4
 }
 
 // Where the four lists of `M` end among its readings.

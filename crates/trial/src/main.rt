@@ -7,12 +7,14 @@ ghost use Rattle.trial.specs.Inside.{Refilled, CommandRun};
 mod calls;
 
 use calls::run_call;
+use layout::Form;
 use libc::STDIN_FILENO;
 use libc::STDOUT_FILENO;
 use spaces::Next;
 use spaces::set_book;
 use spaces::set_place;
 use spaces::spoil;
+use tables::run_move;
 use tables::run_write;
 
 // What is left of the input, moved to its front, and more after it: how many bytes there are then.
@@ -58,28 +60,33 @@ fn run(
     table: &mut [u8; 13312],
     injections: &mut [i32; 128],
     branches: &mut [u32; 1280],
+    shelf: &mut [u8; 2100],
 ) -> Next
     requires { ⌜ (0 < length (now rest)) × (bytes ≤ 2100) ⌝ }
-    ensures { λ r. ⌜ CommandRun (now (rest .entry)) bytes (lent (now (book .entry)) (now (flow .entry)) (now (table .entry))) (lent (now (book .exit)) (now (flow .exit)) (now (table .exit))) (now (injections .entry)) (now (injections .exit)) (now (branches .entry)) (now (branches .exit)) r ⌝ }
+    ensures { λ r. ⌜ CommandRun (now (rest .entry)) bytes (lent (now (book .entry)) (now (flow .entry)) (now (table .entry))) (lent (now (book .exit)) (now (flow .exit)) (now (table .exit))) (now (injections .entry)) (now (injections .exit)) (now (branches .entry)) (now (branches .exit)) (now (shelf .entry)) (now (shelf .exit)) r ⌝ }
     ensures { λ r. ⌜ (r .taken ≤ length (now (rest .entry))) × (r .bytes ≤ 2100) ⌝ }
 {
     let letter = rest[0];
     if letter == b'P' {
-        spoil(book, flow, table, injections, branches);
+        spoil(book, flow, table, injections, branches, shelf);
         return Next { taken: 1, bytes: 0 };
     }
     if letter == b'B' {
         return set_book(rest, book, bytes);
     }
     if letter == b'W' {
-        return run_write(rest, book, bytes, injections, branches);
+        return run_write(Form::Old, rest, book, bytes, injections, branches);
     }
-    let placed = set_place(rest, letter, flow, table, injections, branches);
-    if 0 < placed {
-        return Next {
-            taken: placed,
-            bytes,
-        };
+    if letter == b'X' {
+        return run_write(Form::New, rest, book, bytes, injections, branches);
+    }
+    if letter == b'L' {
+        let taken = run_move(rest, book, bytes, shelf);
+        return Next { taken, bytes };
+    }
+    let set = set_place(rest, letter, flow, table, injections, branches);
+    if 0 < set {
+        return Next { taken: set, bytes };
     }
     let taken = run_call(rest, letter, book, bytes, flow, table, injections, branches);
     Next { taken, bytes }
@@ -93,6 +100,7 @@ fn main() {
     let mut table = [0u8; 13312];
     let mut injections = [0i32; 128];
     let mut branches = [0u32; 1280];
+    let mut shelf = [0u8; 2100];
     let mut bytes: usize = 0;
     let mut at: usize = 0;
     let mut end: usize = 0;
@@ -112,6 +120,7 @@ fn main() {
             &mut table,
             &mut injections,
             &mut branches,
+            &mut shelf,
         );
         if next.taken == 0 {
             io::write_all(STDOUT_FILENO, b"bad command\n");

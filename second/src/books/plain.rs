@@ -1,15 +1,30 @@
-//! Books as they are most often written by hand: power factor 1000, and every branch in service but named ones.
+//! Books as they are most often written by hand: old, power factor 1000, and every branch in service but named ones; and
+//! the same in the new form.
 
-use crate::definitions::book::{Book, Branch};
+use crate::definitions::book::Book;
+use crate::definitions::branch::Branch;
+use crate::definitions::form::Form;
 
-/// A book with every branch in service at power factor 1000.
+/// An old book with every branch in service at power factor 1000.
 pub fn plain(injections: &[i64], branches: &[(usize, usize, u32)]) -> Book {
-    let branch = |&(first, second, kva): &(usize, usize, u32)| Branch { first, second, kva, served: true };
-    Book { factor: 1000, injections: injections.to_vec(), branches: branches.iter().map(branch).collect() }
+    let branch = |&(first, second, kva): &(usize, usize, u32)| Branch::rated(first, second, kva, true);
+    Book { form: Form::Old, factor: 1000, injections: injections.to_vec(), branches: branches.iter().map(branch).collect() }
 }
 
 /// The same book with one branch out of service.
 pub fn with_out(mut book: Book, branch: usize) -> Book {
     book.branches[branch].served = false;
+    book
+}
+
+/// The same book in the new form, both ratings equal.
+pub fn moved_up(book: Book) -> Book {
+    Book { form: Form::New, ..book }
+}
+
+/// The same book in the new form, with a second kVA of its own on some branches.
+pub fn with_seconds(book: Book, seconds: &[(usize, u32)]) -> Book {
+    let mut book = moved_up(book);
+    seconds.iter().for_each(|&(branch, kva)| book.branches[branch].second_kva = kva);
     book
 }

@@ -1,7 +1,10 @@
-//! Random books: rings, trees, meshes, islands, parallel branches, limits of 0, branches out; most can be served.
+//! Random books of either form: rings, trees, meshes, islands, parallel branches, limits of 0, branches out; most can be served.
 
 use crate::books::random::Random;
-use crate::definitions::book::{Book, Branch, LARGEST};
+use crate::books::random_forms;
+use crate::definitions::book::Book;
+use crate::definitions::branch::Branch;
+use crate::definitions::form::{Form, LARGEST};
 use crate::definitions::network::limit_in_kw;
 
 /// A book with these counts whose base excess is 0.
@@ -22,11 +25,13 @@ pub fn served_with_flow(random: &mut Random, buses: usize, count: usize) -> (Boo
         .map(|number| {
             let (first, second) = ends(random, buses, number, shape, islands);
             let kva = if random.once_in(zeros) { random.below(2) as u32 } else { random.between(largest / 2, largest) as u32 };
-            Branch { first, second, kva, served: !random.once_in(outs) }
+            Branch::rated(first, second, kva, !random.once_in(outs))
         })
         .collect();
     let (injections, flow) = injections(random, buses, &branches, factor);
-    (Book { factor, injections, branches }, flow)
+    let mut book = Book { form: Form::Old, factor, injections, branches };
+    random_forms::either(random, &mut book);
+    (book, flow)
 }
 
 /// Two different buses of the same island, if the island has two.

@@ -1,10 +1,13 @@
-//! A book as plain text: `factor F`, then `bus KW` and `branch FIRST SECOND KVA in|out` lines; `#` starts a remark.
+//! A book as plain text: `factor F`, `form new` where it is new, then `bus KW` lines and a `branch` line each, with one
+//! kVA figure or two by the form; `#` starts a remark.
 
-use crate::definitions::book::{Book, Branch, LARGEST};
+use crate::definitions::book::Book;
+use crate::definitions::branch::Branch;
+use crate::definitions::form::{Form, LARGEST};
 
 /// The book that a text names; otherwise one sentence on what is wrong, with the number of its line where one is.
 pub fn parse(text: &str) -> Result<Book, String> {
-    let mut book = Book { factor: 1000, injections: Vec::new(), branches: Vec::new() };
+    let mut book = Book { form: Form::Old, factor: 1000, injections: Vec::new(), branches: Vec::new() };
     let mut branch_lines = Vec::new();
     for (place, line) in text.lines().enumerate() {
         let at = |problem: String| format!("Line {}: {problem}.", place + 1);
@@ -12,16 +15,26 @@ pub fn parse(text: &str) -> Result<Book, String> {
         match words[..] {
             [] => {}
             ["factor", factor] => book.factor = number("a power factor", factor, 1, 1000).map_err(at)? as u32,
+            ["form", "new"] if book.branches.is_empty() => book.form = Form::New,
+            ["form", "new"] => return Err(at("'form new' has to stand before the branches".into())),
             ["bus", kw] => book.injections.push(number("an injection in kW", kw, -LARGEST, LARGEST).map_err(at)?),
-            ["branch", first, second, kva, state] => {
-                book.branches.push(branch(first, second, kva, state).map_err(at)?);
+            ["branch", ref words @ ..] if words.len() == book.form.numbers() => {
+                book.branches.push(branch(words).map_err(at)?);
                 branch_lines.push(place + 1);
             }
-            _ => return Err(at("it is none of 'factor F', 'bus KW', 'branch FIRST SECOND KVA in|out'".into())),
+            _ => return Err(at(format!("it is none of {}", lines_of(book.form)))),
         }
     }
     whole(&book, &branch_lines)?;
     Ok(book)
+}
+
+/// The lines that a text of a book of this form may have.
+fn lines_of(form: Form) -> &'static str {
+    match form {
+        Form::Old => "'factor F', 'form new', 'bus KW', 'branch FIRST SECOND KVA in|out'",
+        Form::New => "'factor F', 'form new', 'bus KW', 'branch FIRST SECOND KVA SECOND-KVA in|out'",
+    }
 }
 
 fn number(what: &str, word: &str, least: i64, most: i64) -> Result<i64, String> {
@@ -29,17 +42,26 @@ fn number(what: &str, word: &str, least: i64, most: i64) -> Result<i64, String> 
     found.ok_or_else(|| format!("'{word}' is not {what} from {least} to {most}"))
 }
 
-fn branch(first: &str, second: &str, kva: &str, state: &str) -> Result<Branch, String> {
+/// A branch from its words: two buses, one rating or two, and its state.
+fn branch(words: &[&str]) -> Result<Branch, String> {
+    let [first, second, kva, others @ .., state] = words else { unreachable!("as many words as numbers") };
     let first = number("a bus", first, 0, 127)? as usize;
     let second = number("a bus", second, 0, 127)? as usize;
     let kva = number("a rating in kVA", kva, 0, LARGEST)? as u32;
     if first == second {
         return Err(format!("both ends of the branch are bus {first}"));
     }
-    if !["in", "out"].contains(&state) {
+    if !["in", "out"].contains(state) {
         return Err(format!("'{state}' is neither 'in' nor 'out'"));
     }
-    Ok(Branch { first, second, kva, served: state == "in" })
+    let mut branch = Branch::rated(first, second, kva, *state == "in");
+    if let [second_kva] = others {
+        branch.second_kva = number("a second rating in kVA", second_kva, 0, LARGEST)? as u32;
+    }
+    if branch.second_kva < kva {
+        return Err(format!("the second rating of {} kVA is below the first of {kva}", branch.second_kva));
+    }
+    Ok(branch)
 }
 
 /// What no line shows alone: the counts, that every end is a bus, the sum.
@@ -62,11 +84,16 @@ fn whole(book: &Book, branch_lines: &[usize]) -> Result<(), String> {
 
 pub fn print(book: &Book) -> String {
     let mut text = format!("factor {}\n", book.factor);
+    if book.form == Form::New {
+        text += "form new\n";
+    }
     for injection in &book.injections {
         text += &format!("bus {injection}\n");
     }
-    for b in &book.branches {
-        text += &format!("branch {} {} {} {}\n", b.first, b.second, b.kva, if b.served { "in" } else { "out" });
+    for branch in &book.branches {
+        let row = branch.row(book.form);
+        let figures: String = row[..row.len() - 1].iter().map(|figure| format!("{figure} ")).collect();
+        text += &format!("branch {figures}{}\n", if branch.served { "in" } else { "out" });
     }
     text
 }

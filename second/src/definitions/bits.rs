@@ -16,6 +16,13 @@ pub fn set(bytes: &mut [u8], at: usize, value: bool) {
     bytes[at / 8] = if value { bytes[at / 8] | one } else { bytes[at / 8] & !one };
 }
 
+/// The same bytes with the bit at place `at` given a value.
+pub fn with(bytes: &[u8], at: usize, value: bool) -> Vec<u8> {
+    let mut changed = bytes.to_vec();
+    set(&mut changed, at, value);
+    changed
+}
+
 /// Fields put one after another; bytes start as zeros, so the tail fill is zero.
 #[derive(Default)]
 pub struct Packer {

@@ -1,6 +1,6 @@
 //! Injections from meter registers, refusals 13 to 16.
 
-use crate::definitions::book::LARGEST;
+use crate::definitions::form::LARGEST;
 
 /// The four lists of readings, a place a bus.
 pub struct Registers<'a> {

@@ -1,6 +1,7 @@
 //! What a book means: limits in kW, which flow fits, and the words of a verdict.
 
-use crate::definitions::book::{Book, Branch};
+use crate::definitions::book::Book;
+use crate::definitions::branch::Branch;
 
 /// A group of buses: bus k is bit k.
 pub type Group = u128;
@@ -47,6 +48,7 @@ pub fn holds(group: Group, bus: usize) -> bool {
 }
 
 impl Network {
+    /// The network of a book of either form. Until W2 lands the first rating alone makes the limit.
     pub fn of(book: &Book) -> Network {
         let line =
             |b: &Branch| Line { first: b.first, second: b.second, limit: limit_in_kw(b.kva, book.factor), served: b.served };

@@ -15,6 +15,14 @@ pub enum Way {
 }
 
 impl Way {
+    /// The word that begins the answer of the call.
+    pub fn name(self) -> &'static str {
+        match self {
+            Way::Out => "out",
+            Way::Back => "back",
+        }
+    }
+
     /// Whether the branch is in service after the call.
     pub fn serves(self) -> bool {
         self == Way::Back

@@ -13,6 +13,8 @@ use crate::definitions::record;
 use crate::definitions::screen;
 use crate::definitions::switching::Way;
 use crate::judging::accepted::{Call, Switch};
+use crate::judging::forms;
+use crate::judging::moved;
 use crate::judging::run::Run;
 use crate::judging::tally::Tally;
 use crate::trial::spaces::{from_hex, Spaces};
@@ -72,20 +74,21 @@ impl Judge<'_> {
         }
     }
 
-    fn refused(&mut self, call: &str, answer: Answer) {
+    fn refused(&mut self, command: &Command, answer: Answer) {
         self.tally.count(&format!("refused {:>2}", answer.number));
-        self.tally.count(&format!("{call} refused {:>2}", answer.number));
+        self.tally.count(&format!("{} refused {:>2}", word(command), answer.number));
+        forms::refused(&mut self.tally, command, &self.spaces, answer.number);
     }
 
     fn step(&mut self, command: &Command) -> Result<(), String> {
         match command {
             Command::Screen { flow, table } => {
                 let accepted = screen::screened(self.spaces.bytes(), *flow, *table);
-                self.call("screen", accepted.map(Pending::Screen))
+                self.call(command, accepted.map(Pending::Screen))
             }
             Command::Switch { way, flow, table, branch } => {
                 let accepted = self.switch(*way, *flow, *table, *branch);
-                self.call(word(command), accepted.map(Pending::Switch))
+                self.call(command, accepted.map(Pending::Switch))
             }
             Command::Dump => self.dump(),
             other => self.plain(other),
@@ -107,11 +110,11 @@ impl Judge<'_> {
     }
 
     /// The answer of a call is due; what an accepted one left is for the next dump to show.
-    fn call(&mut self, call: &str, accepted: Result<Pending, Answer>) -> Result<(), String> {
+    fn call(&mut self, command: &Command, accepted: Result<Pending, Answer>) -> Result<(), String> {
         let answer = accepted.as_ref().err().copied().unwrap_or(Answer::ACCEPTED);
-        self.due(&format!("{call} {answer}"))?;
+        self.due(&format!("{} {answer}", word(command)))?;
         if !answer.accepted() {
-            self.refused(call, answer);
+            self.refused(command, answer);
         }
         self.pending = accepted.ok();
         Ok(())
@@ -119,6 +122,7 @@ impl Judge<'_> {
 
     fn plain(&mut self, command: &Command) -> Result<(), String> {
         let before = self.run.known().then(|| self.spaces.clone());
+        let shelf = matches!(command, Command::Move { .. }).then(|| self.spaces.shelf.clone());
         let (answer, lines) = self.spaces.run(command);
         if let Some(before) = before {
             self.run.stored(&before, &self.spaces);
@@ -127,9 +131,26 @@ impl Judge<'_> {
             self.due(line)?;
         }
         match answer {
-            Some(Answer::ACCEPTED) => self.tally.count(&format!("{} accepted", word(command))),
-            Some(answer) => self.refused(word(command), answer),
-            None => {}
+            Some(Answer::ACCEPTED) => self.accepted(command, shelf),
+            Some(answer) => {
+                self.refused(command, answer);
+                Ok(())
+            }
+            None => Ok(()),
+        }
+    }
+
+    /// An accepted call whose effect is fixed; a move is held to its promises too, the shelf being the one before it.
+    fn accepted(&mut self, command: &Command, shelf: Option<Vec<u8>>) -> Result<(), String> {
+        self.tally.count(&format!("{} accepted", word(command)));
+        let book = self.spaces.bytes();
+        match (command, shelf) {
+            (Command::Meters { .. }, _) => {}
+            (Command::Move { form, room }, Some(shelf)) => {
+                moved::promised(book, *form, &shelf, &self.spaces.shelf)?;
+                forms::moved(&mut self.tally, book, *form, *room);
+            }
+            _ => forms::accepted(&mut self.tally, word(command), book),
         }
         Ok(())
     }
@@ -148,16 +169,19 @@ impl Judge<'_> {
         };
         self.take_over(&mut left)?;
         let mut call = Call { before: &self.spaces, left: &left, run: &self.run, tally: &mut self.tally };
-        match &pending {
+        let name = match &pending {
             Pending::Screen(network) => {
                 call.judge_screen(network)?;
                 self.run.screened();
+                "screen"
             }
             Pending::Switch(switch) => {
                 call.judge_switch(switch)?;
                 self.run.switched(switch.way, switch.branch, &self.spaces);
+                switch.way.name()
             }
-        }
+        };
+        forms::accepted(&mut self.tally, name, self.spaces.bytes());
         self.spaces = left;
         Ok(())
     }

@@ -1,136 +1,160 @@
-//! Parts of random streams that are mostly refused: damaged books, arbitrary bytes, tables to be written, registers.
+//! Parts of random streams that are mostly refused: damaged books of either form, arbitrary bytes, registers, bad commands.
 
 use crate::books::random::Random;
-use crate::books::random_books::{counts, served, strained};
-use crate::definitions::book::{self, pack, Book};
-use crate::definitions::switching::Way;
+use crate::books::random_books::{counts, strained};
+use crate::definitions::bits;
+use crate::definitions::book::{pack, Book};
+use crate::definitions::form::{Form, BUS, HEADER, LAYOUT};
+use crate::streams::stored::{out, READ_WHOLE, WHOLE};
 use crate::streams::under_way::Stream;
-use crate::trial::stream::{Command, BOOK, FLOWS, INJECTIONS, NUMBERS, TABLE};
+use crate::trial::stream::{Command, BOOK};
+
+/// One thing wrong with a book, in its fields or in its bytes.
+#[derive(Clone, Copy, Debug, PartialEq, Eq)]
+pub enum Damage {
+    Size,
+    Sum,
+    Branch,
+    SecondBelow,
+    SecondAbove,
+    Cut,
+    Longer,
+    OtherLength,
+    Counts,
+    Fill,
+    Layout,
+    MinusZero,
+    Tail,
+    Buses,
+}
+
+impl Damage {
+    pub const ALL: [Damage; 14] = [
+        Damage::Size,
+        Damage::Sum,
+        Damage::Branch,
+        Damage::SecondBelow,
+        Damage::SecondAbove,
+        Damage::Cut,
+        Damage::Longer,
+        Damage::OtherLength,
+        Damage::Counts,
+        Damage::Fill,
+        Damage::Layout,
+        Damage::MinusZero,
+        Damage::Tail,
+        Damage::Buses,
+    ];
+}
 
 /// A damaged book or arbitrary bytes, before every call that reads a book.
 pub fn damaged(stream: &mut Stream) {
     for _ in 0..6 {
-        let way = stream.random.below(11);
-        let bytes = if stream.random.once_in(4) { arbitrary(&mut stream.random) } else { spoilt_book(&mut stream.random, way) };
+        let damage = *stream.random.pick(&Damage::ALL);
+        let bytes =
+            if stream.random.once_in(4) { arbitrary(&mut stream.random) } else { spoilt_book(&mut stream.random, damage) };
         stream.add(Command::Book(bytes));
-        let branch = stream.random.below(300);
-        match stream.random.below(3) {
-            0 => stream.add(Command::Screen { flow: FLOWS, table: TABLE }),
-            1 => stream.add(Command::Switch { way: Way::Out, flow: FLOWS, table: TABLE, branch }),
-            _ => stream.add(Command::Read { injections: INJECTIONS, branches: NUMBERS }),
-        }
+        lend_to_a_call(stream);
         if stream.dumps_left == 0 {
             return;
         }
     }
 }
 
+/// A screen, an outage or a read of whatever stands in the book space.
+pub fn lend_to_a_call(stream: &mut Stream) {
+    let branch = stream.random.below(300);
+    let call = match stream.random.below(3) {
+        0 => WHOLE,
+        1 => out(branch),
+        _ => READ_WHOLE,
+    };
+    stream.add(call);
+}
+
+/// Bytes of any length; half of those long enough have a header in range of either form and the length that goes with it.
 fn arbitrary(random: &mut Random) -> Vec<u8> {
     let length = *random.pick(&[0, 1, 3, 4, 5, 30, 1460, 1461, BOOK]);
     let length = if random.once_in(2) { length } else { random.below(BOOK + 1) };
     let mut bytes: Vec<u8> = (0..length).map(|_| random.word() as u8).collect();
     if random.once_in(2) && length >= 4 {
-        let header =
-            (1 + random.below(128) as u32) << 24 | (random.below(257) as u32) << 15 | (1 + random.below(1000) as u32) << 5;
+        let (buses, count, factor) = (1 + random.below(128), random.below(257), 1 + random.below(1000) as u32);
+        let form = *random.pick(&Form::BOTH);
+        let header = (buses as u32) << 24 | (count as u32) << 15 | factor << 5 | form.layout_bit() << 4;
         bytes[..4].copy_from_slice(&header.to_be_bytes());
-        let (buses, count) = (bytes[0] as usize, (header >> 15 & 511) as usize);
-        bytes.resize(book::length(buses, count), random.word() as u8);
+        bytes.resize(form.length(buses, count), random.word() as u8);
     }
     bytes
 }
 
-/// A book with one thing wrong, one of eleven: its length, its header, a field out of range, a fill bit, the sum.
-pub fn spoilt_book(random: &mut Random, way: usize) -> Vec<u8> {
+/// A random book with one thing wrong.
+pub fn spoilt_book(random: &mut Random, damage: Damage) -> Vec<u8> {
     let (buses, count) = counts(random);
-    let mut book = strained(random, buses, count);
-    let (bus, count) = (random.below(buses), book.branches.len());
-    match way {
-        0 => book.injections[bus] = *random.pick(&[1_000_001, -1_000_001, 1_048_575]),
-        1 => book.injections[bus] += random.between(-3, 3),
-        2 | 3 if count > 0 => spoil_branch(random, &mut book),
+    let book = strained(random, buses, count);
+    spoilt(random, book, damage)
+}
+
+/// The bytes of a book with one thing wrong; where it has no such thing to spoil, the book's own.
+pub fn spoilt(random: &mut Random, mut book: Book, damage: Damage) -> Vec<u8> {
+    let bus = random.below(book.injections.len());
+    match damage {
+        Damage::Size => book.injections[bus] = *random.pick(&[1_000_001, -1_000_001, 1_048_575]),
+        Damage::Sum => book.injections[bus] += random.between(-3, 3),
+        Damage::Branch | Damage::SecondBelow | Damage::SecondAbove => spoil_branch(random, &mut book, damage),
         _ => {}
     }
     let mut bytes = pack(&book);
-    match way {
-        4 => bytes.truncate(random.below(bytes.len())),
-        5 => bytes.resize((bytes.len() + 1 + random.below(40)).min(BOOK), 0),
-        6 => flip(random, &mut bytes, 0, 27),
-        7 => flip(random, &mut bytes, 27, 32),
-        8 => minus_zero(&book, &mut bytes),
-        9 => *bytes.last_mut().expect("never empty") |= 1,
-        10 => bytes[0] = *random.pick(&[0, 129, 255]),
+    let other_length = book.length_in(book.form.other());
+    match damage {
+        Damage::Cut => bytes.truncate(random.below(bytes.len())),
+        Damage::Longer => bytes.resize((bytes.len() + 1 + random.below(40)).min(BOOK), 0),
+        Damage::OtherLength => bytes.resize(other_length, 0),
+        Damage::Counts => flip(random, &mut bytes, 0, LAYOUT),
+        Damage::Fill => flip(random, &mut bytes, LAYOUT + 1, HEADER),
+        Damage::Layout => flip(random, &mut bytes, LAYOUT, LAYOUT + 1),
+        Damage::MinusZero => minus_zero(&book, &mut bytes),
+        Damage::Tail => *bytes.last_mut().expect("never empty") |= 1,
+        Damage::Buses => bytes[0] = *random.pick(&[0, 129, 255]),
         _ => {}
     }
     bytes
 }
 
-fn spoil_branch(random: &mut Random, book: &mut Book) {
+/// One field of one branch, if there is one; where it is the second kVA the book becomes new.
+fn spoil_branch(random: &mut Random, book: &mut Book, damage: Damage) {
+    if book.branches.is_empty() {
+        return;
+    }
     let buses = book.injections.len();
-    let place = random.below(book.branches.len());
+    let last = book.branches.len() - 1;
+    let place = if random.once_in(3) { last } else { random.below(last + 1) };
     let branch = &mut book.branches[place];
-    match random.below(4) {
-        0 => branch.first = buses.min(127),
-        1 => branch.second = 127,
-        2 => branch.second = branch.first,
+    match (damage, random.below(4)) {
+        (Damage::SecondBelow, way) => {
+            branch.kva = branch.kva.max(1);
+            branch.second_kva = if way < 2 { branch.kva - 1 } else { random.below(branch.kva as usize) as u32 };
+        }
+        (Damage::SecondAbove, _) => branch.second_kva = *random.pick(&[1_000_001, 1_048_575]),
+        (_, 0) => branch.first = buses.min(127),
+        (_, 1) => branch.second = 127,
+        (_, 2) => branch.second = branch.first,
         _ => branch.kva = *random.pick(&[1_000_001, 1_048_575]),
+    }
+    if damage != Damage::Branch {
+        book.form = Form::New;
     }
 }
 
 fn flip(random: &mut Random, bytes: &mut [u8], from: usize, to: usize) {
     let place = from + random.below(to - from);
-    bytes[place / 8] ^= 1 << (7 - place % 8);
+    let turned = !bits::bit(bytes, place);
+    bits::set(bytes, place, turned);
 }
 
 fn minus_zero(book: &Book, bytes: &mut [u8]) {
     if let Some(bus) = book.injections.iter().position(|&kw| kw == 0) {
-        let place = 32 + 21 * bus;
-        bytes[place / 8] |= 1 << (7 - place % 8);
+        bits::set(bytes, HEADER + BUS * bus, true);
     }
-}
-
-/// A book is read into the tables, a number of them is changed at times, and the writer is called.
-pub fn tables_to_book(stream: &mut Stream) {
-    let (buses, count) = counts(&mut stream.random);
-    let book = served(&mut stream.random, buses, count);
-    let count = book.branches.len();
-    stream.book(&book);
-    stream.add(Command::Read { injections: INJECTIONS, branches: NUMBERS });
-    for _ in 0..4 {
-        let mut factor = book.factor as usize;
-        let (mut wanted_buses, mut wanted_count) = (buses, count);
-        let (mut injections, mut branches, mut room) = (INJECTIONS, NUMBERS, BOOK);
-        let way = stream.random.below(9);
-        let bus = stream.random.below(buses);
-        match way {
-            0 => factor = *stream.random.pick(&[0, 1001, 65_535]),
-            1 => wanted_buses = *stream.random.pick(&[0, 129, 65_535]),
-            2 => wanted_count = *stream.random.pick(&[257, 65_535]),
-            3 => injections = stream.random.below(buses),
-            4 => branches = (4 * count).saturating_sub(1),
-            5 => room = book::length(buses, count) - 1,
-            6 => stream.add(Command::Injection(bus, 1_000_001)),
-            7 => stream.add(Command::Injection(bus, book.injections[bus] as i32 + 1)),
-            _ if count > 0 => spoil_number(stream, count, buses),
-            _ => {}
-        }
-        stream.add(Command::Write { buses: wanted_buses, count: wanted_count, factor, injections, branches, room });
-        stream.add(Command::Injection(bus, book.injections[bus] as i32));
-        stream.add(Command::Write {
-            buses,
-            count,
-            factor: book.factor as usize,
-            injections: buses,
-            branches: 4 * count,
-            room: book::length(buses, count),
-        });
-    }
-    stream.screen(count);
-}
-
-fn spoil_number(stream: &mut Stream, count: usize, buses: usize) {
-    let branch = stream.random.below(count);
-    let (place, value) = *stream.random.pick(&[(0, buses as u32), (1, u32::MAX), (2, 1_000_001), (3, 2), (3, 0), (3, 1)]);
-    stream.add(Command::Number(4 * branch + place, value));
 }
 
 /// Registers with advances small and large, rolled over, and lists of every length.
@@ -160,7 +184,7 @@ pub fn registers(stream: &mut Stream) {
 
 /// An end that is no command: another byte, a number too large, or an end inside a command.
 pub fn bad_command(stream: &mut Stream) {
-    let bad: &[u8] = match stream.random.below(15) {
+    let bad: &[u8] = match stream.random.below(21) {
         0 => b"x",
         1 => b"F\x01\x00\x00\x00\x00\x00",
         2 => b"T\x34\x00\x00",
@@ -175,6 +199,12 @@ pub fn bad_command(stream: &mut Stream) {
         11 => b"K\x01\x01\x00\x00\x00\x00",
         12 => b"K\x01\x00\x34\x01\x00\x00",
         13 => b"K\x01\x00\x34\x00\x00",
+        14 => b"L\x02\x00\x00",
+        15 => b"L\xff\x08\x34",
+        16 => b"L\x00\x08\x35",
+        17 => b"L\x01\x08",
+        18 => b"X\x00\x01\x00\x00\x00\x01\x00\x01\x00\x01\x08\x35",
+        19 => b"X\x00\x01\x00\x00\x00\x01\x00\x01\x05\x01\x00\x07",
         _ => b"B\x00\x05\x01\x02",
     };
     stream.bytes.extend(bad);

@@ -1,7 +1,7 @@
 //! What the gate stores for its programs: the standard input of each, and the outputs that document 01 fixes whole. The
 //! output of `trial` holds choices of its own and is judged instead.
 
-use crate::books::shelf;
+use crate::books::named;
 use crate::definitions::list::list;
 use crate::streams::stored;
 
@@ -15,7 +15,7 @@ pub const TRIAL_OUTPUT: &str = "trial/stdout";
 /// Every file by its path among the crates. `outages_try` is given all stored inputs, each with its length in two bytes
 /// before it, and prints the list of each.
 pub fn files() -> Vec<(&'static str, Vec<u8>)> {
-    let inputs = shelf::inputs();
+    let inputs = named::inputs();
     let (_, book) = inputs.iter().find(|(name, _)| *name == BOOK_OF_OUTAGES).expect("a stored input");
     let joined = inputs.iter().flat_map(|(_, bytes)| [&(bytes.len() as u16).to_be_bytes()[..], bytes].concat());
     let lists: String = inputs.iter().map(|(_, bytes)| list(bytes)).collect();

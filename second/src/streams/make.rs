@@ -4,8 +4,8 @@ use crate::books::random_books::{counts, strained};
 use crate::definitions::record;
 use crate::definitions::switching::Way;
 use crate::streams::under_way::Stream;
-use crate::streams::{damage, make_returns, make_tables};
-use crate::trial::stream::{Command, FLOWS, TABLE};
+use crate::streams::{damage, make_forms, make_returns, make_tables, make_written};
+use crate::trial::stream::{Command, FLOWS, INJECTIONS, NUMBERS, TABLE};
 
 /// The random stream of a seed.
 pub fn stream(seed: u64) -> Vec<u8> {
@@ -15,7 +15,7 @@ pub fn stream(seed: u64) -> Vec<u8> {
         if stream.random.once_in(3) {
             stream.add(Command::Spoil);
         }
-        match stream.random.below(19) {
+        match stream.random.below(22) {
             0 => run(&mut stream),
             1 | 2 => run_with_spoilt_table(&mut stream),
             3 | 4 => make_tables::lent_flow(&mut stream),
@@ -23,11 +23,13 @@ pub fn stream(seed: u64) -> Vec<u8> {
             6 => overloaded(&mut stream),
             7 => damage::damaged(&mut stream),
             8 => short_room(&mut stream),
-            9 => damage::tables_to_book(&mut stream),
+            9 => make_written::tables_to_book(&mut stream),
             10 => damage::registers(&mut stream),
             11..=15 => make_returns::mixed(&mut stream),
             16 => make_returns::from_untrue(&mut stream),
-            _ => make_returns::refused(&mut stream),
+            17 | 18 => make_returns::refused(&mut stream),
+            19 | 20 => make_forms::moves(&mut stream),
+            _ => make_forms::refused(&mut stream),
         }
         if stream.dumps_left == 0 {
             break;
@@ -102,7 +104,7 @@ fn overloaded(stream: &mut Stream) {
 /// Lent space too short by little or much, for every call that is lent some.
 fn short_room(stream: &mut Stream) {
     let count = stream.good_book();
-    let buses = stream.spaces.book[0] as usize;
+    let Some(book) = stream.standing_book() else { return };
     let flow = stream.less(count);
     stream.add(Command::Screen { flow, table: TABLE });
     let table = stream.less(record::SIZE * count);
@@ -111,8 +113,8 @@ fn short_room(stream: &mut Stream) {
     let out = |flow, table| Command::Switch { way: Way::Out, flow, table, branch };
     stream.add(out(flow, TABLE));
     stream.add(out(FLOWS, table));
-    let injections = stream.less(buses);
-    stream.add(Command::Read { injections, branches: 1024 });
-    let branches = stream.less(4 * count);
-    stream.add(Command::Read { injections: 128, branches });
+    let injections = stream.less(book.injections.len());
+    stream.add(Command::Read { injections, branches: NUMBERS });
+    let branches = stream.less(book.form.numbers() * count);
+    stream.add(Command::Read { injections: INJECTIONS, branches });
 }

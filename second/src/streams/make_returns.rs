@@ -2,15 +2,16 @@
 
 use crate::definitions::record;
 use crate::definitions::switching::Way;
-use crate::streams::damage::spoilt_book;
-use crate::streams::make_tables;
+use crate::streams::damage::{spoilt_book, Damage};
 use crate::streams::under_way::Stream;
+use crate::streams::{make_forms, make_tables};
 use crate::trial::stream::{Command, FLOWS, TABLE};
 
 /// Ways to spoil a book such that 1 to 7 are each met often.
-const SPOILT: [usize; 7] = [4, 10, 7, 0, 2, 9, 1];
+const SPOILT: [Damage; 7] = [Damage::Cut, Damage::Buses, Damage::Fill, Damage::Size, Damage::Branch, Damage::Tail, Damage::Sum];
 
-/// A screen, then outages and returns in any order, at times a branch out and straight back, at times any branch at all.
+/// A screen, then outages and returns in any order, at times a branch out and straight back, at times any branch at all;
+/// the book as it stands then is moved at times.
 pub fn mixed(stream: &mut Stream) {
     let count = stream.good_book();
     stream.screen(count);
@@ -31,6 +32,9 @@ pub fn mixed(stream: &mut Stream) {
                 Some(branch) => stream.back(count, branch),
                 None => take_out(stream, count),
             },
+        }
+        if stream.random.once_in(8) {
+            make_forms::move_it(stream);
         }
         if stream.dumps_left == 0 {
             return;
@@ -91,8 +95,8 @@ pub fn refused(stream: &mut Stream) {
     }
     short_or_no_branch(stream, count);
     unfit(stream, count);
-    for way in SPOILT {
-        let bytes = spoilt_book(&mut stream.random, way);
+    for damage in SPOILT {
+        let bytes = spoilt_book(&mut stream.random, damage);
         stream.add(Command::Book(bytes));
         let branch = stream.random.below(300);
         stream.add(Command::Switch { way: Way::Back, flow: FLOWS, table: TABLE, branch });

@@ -2,22 +2,34 @@
 //! short, document 001's systems and the largest book, in one fixed order; then what later requests brought, so that all
 //! before it keeps its bytes. After every refused call all spaces that the call doesn't print itself are dumped.
 
+use crate::books::named::{largest, second_book, too_long, triangle};
 use crate::books::plain::plain;
-use crate::books::shelf::{largest, second_book, too_long, triangle};
 use crate::books::sources;
-use crate::definitions::book::{self, pack, Book};
+use crate::definitions::bits;
+use crate::definitions::book::{pack, Book};
+use crate::definitions::form::{Form, HEADER};
 use crate::definitions::network::Verdict;
 use crate::definitions::record;
 use crate::definitions::switching::Way;
-use crate::streams::stored_returns;
 use crate::streams::under_way::Stream;
+use crate::streams::{stored_forms, stored_returns};
 use crate::trial::stream::{Command, BOOK, FLOWS, INJECTIONS, NUMBERS, TABLE};
 
-/// A screen that is lent all flow and table space, and an outage likewise.
+/// Calls that are lent all the space there is: a screen, a read, an outage, a return.
 pub const WHOLE: Command = Command::Screen { flow: FLOWS, table: TABLE };
+pub const READ_WHOLE: Command = Command::Read { injections: INJECTIONS, branches: NUMBERS };
 
 pub fn out(branch: usize) -> Command {
     Command::Switch { way: Way::Out, flow: FLOWS, table: TABLE, branch }
+}
+
+pub fn back(branch: usize) -> Command {
+    Command::Switch { way: Way::Back, flow: FLOWS, table: TABLE, branch }
+}
+
+/// A write in a form: buses, branches, factor, and the room of the injections, the branch numbers and the output.
+pub fn written(form: Form, [buses, count, factor, injections, branches, room]: [usize; 6]) -> Command {
+    Command::Write { form, buses, count, factor, injections, branches, room }
 }
 
 pub fn stream() -> Vec<u8> {
@@ -36,6 +48,7 @@ pub fn stream() -> Vec<u8> {
     stream.add(out(130));
     stream.add(out(7));
     stored_returns::add(&mut stream);
+    stored_forms::add(&mut stream);
     // A bad command stops a stream, so it stays the last.
     stream.bytes.extend(b"F\x01\x00");
     stream.bytes
@@ -77,18 +90,14 @@ fn damaged(stream: &mut Stream) {
         stream.add(Command::Book(bytes));
         stream.add(WHOLE);
         stream.add(out(0));
-        stream.add(Command::Read { injections: INJECTIONS, branches: NUMBERS });
+        stream.add(READ_WHOLE);
     }
 }
 
 /// Books with one thing wrong each, in the order of the refusals 1 to 7.
 pub fn damaged_books() -> Vec<Vec<u8>> {
     let good = pack(&triangle(30));
-    let with = |place: usize| {
-        let mut bytes = good.clone();
-        bytes[place / 8] |= 1 << (7 - place % 8);
-        bytes
-    };
+    let two = |branches: &[(usize, usize, u32)]| pack(&plain(&[0, 0], branches));
     vec![
         Vec::new(),
         good[..3].to_vec(),
@@ -97,21 +106,13 @@ pub fn damaged_books() -> Vec<Vec<u8>> {
         too_long(&good),
         [&[0], &good[1..]].concat(),
         [&[129], &good[1..]].concat(),
-        with(31),
+        bits::with(&good, HEADER - 1, true),
         pack(&plain(&[1_000_001, -1, -1], &[])),
-        {
-            let mut bytes = pack(&plain(&[0, 0], &[]));
-            bytes[4] |= 128;
-            bytes
-        },
-        pack(&plain(&[0, 0], &[(0, 2, 1)])),
-        pack(&plain(&[0, 0], &[(1, 1, 1)])),
-        pack(&plain(&[0, 0], &[(0, 1, 1_000_001)])),
-        {
-            let mut bytes = pack(&plain(&[0, 0], &[(0, 1, 1)]));
-            *bytes.last_mut().expect("not empty") |= 1;
-            bytes
-        },
+        bits::with(&two(&[]), HEADER, true),
+        two(&[(0, 2, 1)]),
+        two(&[(1, 1, 1)]),
+        two(&[(0, 1, 1_000_001)]),
+        bits::with(&two(&[(0, 1, 1)]), 8 * two(&[(0, 1, 1)]).len() - 1, true),
         pack(&plain(&[5, -4], &[(0, 1, 1)])),
     ]
 }
@@ -124,7 +125,7 @@ fn tables(stream: &mut Stream) {
     stream.add(Command::Read { injections: 3, branches: 11 });
     stream.add(Command::Read { injections: 3, branches: 12 });
     let write =
-        |buses, count, factor, injections, branches, room| Command::Write { buses, count, factor, injections, branches, room };
+        |buses, count, factor, injections, branches, room| written(Form::Old, [buses, count, factor, injections, branches, room]);
     stream.add(write(0, 3, 1000, 0, 0, 0));
     stream.add(write(3, 257, 1000, 0, 0, 0));
     stream.add(write(3, 3, 1001, 0, 0, 0));
@@ -139,7 +140,7 @@ fn tables(stream: &mut Stream) {
     stream.add(write(3, 3, 999, 3, 12, 25));
     stream.bytes.push(b'D');
     stream.add(write(3, 3, 1000, INJECTIONS, NUMBERS, BOOK));
-    stream.add(Command::Read { injections: INJECTIONS, branches: NUMBERS });
+    stream.add(READ_WHOLE);
 }
 
 /// The register examples and refusals 13 to 16.
@@ -214,5 +215,5 @@ fn systems(stream: &mut Stream) {
     stream.book(&sources::ten_bus(&sources::TEN_SPLIT));
     stream.add(WHOLE);
     stream.add(out(sources::TEN_1_4));
-    assert_eq!(book::length(10, 11), stream.spaces.length);
+    assert_eq!(Form::Old.length(10, 11), stream.spaces.length);
 }

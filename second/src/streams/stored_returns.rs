@@ -1,22 +1,18 @@
 //! The part of the stored stream in which branches come back: every refusal of the call, runs mixed with outages, an
 //! untrue table, document 01's two books, document 001's 5-bus system and the largest book.
 
+use crate::books::named::{largest, second_and_feeder, second_book, triangle};
 use crate::books::plain::with_out;
-use crate::books::shelf::{largest, second_and_feeder, second_book, triangle};
 use crate::books::sources::{five_bus, FIVE_3_4, FIVE_3_5};
 use crate::definitions::network::Verdict;
 use crate::definitions::record::{self, SIZE};
 use crate::definitions::switching::Way;
-use crate::streams::stored::{damaged_books, four, lend, out, put_record, WHOLE};
+use crate::streams::stored::{back, damaged_books, four, lend, out, put_record, WHOLE};
 use crate::streams::under_way::Stream;
-use crate::trial::stream::{Command, FLOWS, TABLE};
+use crate::trial::stream::Command;
 
 fn lent_back(flow: usize, table: usize, branch: usize) -> Command {
     Command::Switch { way: Way::Back, flow, table, branch }
-}
-
-fn back(branch: usize) -> Command {
-    lent_back(FLOWS, TABLE, branch)
 }
 
 pub fn add(stream: &mut Stream) {

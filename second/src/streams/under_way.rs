@@ -2,8 +2,9 @@
 
 use crate::books::random::Random;
 use crate::books::random_books::{counts, served_with_flow};
-use crate::definitions::book::{self, pack, Book, LARGEST};
+use crate::definitions::book::{self, pack, Book};
 use crate::definitions::cuts::Cutter;
+use crate::definitions::form::LARGEST;
 use crate::definitions::network::{Network, Verdict};
 use crate::definitions::record;
 use crate::definitions::switching::Way;
@@ -56,9 +57,19 @@ impl Stream {
         let may_be_accepted = with_choice && (number == 0 || self.unsure);
         let shown = self.dump_each_refused && number != 0;
         if may_be_accepted || shown || with_choice && self.random.once_in(self.dump_refused) {
-            self.bytes.push(b'D');
-            self.dumps_left = self.dumps_left.saturating_sub(1);
+            self.dump();
         }
+    }
+
+    pub fn dump(&mut self) {
+        self.bytes.push(b'D');
+        self.dumps_left = self.dumps_left.saturating_sub(1);
+    }
+
+    /// Shows all spaces but the shelf: a dump, and a read that is refused and so prints the tables as they stand.
+    pub fn show(&mut self) {
+        self.dump();
+        self.add(Command::Read { injections: 0, branches: 0 });
     }
 
     pub fn add_all(&mut self, commands: impl IntoIterator<Item = Command>) {
@@ -67,15 +78,20 @@ impl Stream {
 
     /// Whether another program's flow may fit: not where a number above every limit was put in place.
     fn may_fit(&self) -> bool {
-        let count = book::unpack(self.spaces.bytes()).map_or(0, |book| book.branches.len());
+        let count = self.standing_book().map_or(0, |book| book.branches.len());
         self.spaces.flow[..count].iter().all(|kw| kw.abs() <= LARGEST)
+    }
+
+    /// The book as it stands, if it can be read.
+    pub fn standing_book(&self) -> Option<Book> {
+        book::unpack(self.spaces.bytes()).ok()
     }
 
     pub fn book(&mut self, book: &Book) {
         self.add(Command::Book(pack(book)));
     }
 
-    /// A good book in the book space; its number of branches.
+    /// A good book of either form in the book space; its number of branches.
     pub fn good_book(&mut self) -> usize {
         let (buses, count) = counts(&mut self.random);
         let (book, _) = served_with_flow(&mut self.random, buses, count);
@@ -121,14 +137,14 @@ impl Stream {
 
     /// A branch of the book as it stands that is in service, or one that is out of it.
     pub fn standing(&mut self, served: bool) -> Option<usize> {
-        let book = book::unpack(self.spaces.bytes()).ok()?;
+        let book = self.standing_book()?;
         let found: Vec<usize> = (0..book.branches.len()).filter(|&k| book.branches[k].served == served).collect();
         (!found.is_empty()).then(|| *self.random.pick(&found))
     }
 
     /// A branch that carries in the book as it stands, if a few tries find one; one with a flow is preferred.
     pub fn carrying(&mut self) -> Option<usize> {
-        let book = book::unpack(self.spaces.bytes()).ok()?;
+        let book = self.standing_book()?;
         let network = Network::of(&book);
         let mut cutter = Cutter::new(&network);
         if network.lines.is_empty() || cutter.base_excess().amount > 0 {

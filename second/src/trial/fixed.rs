@@ -69,10 +69,8 @@ impl Fixed {
             _ => {}
         }
         let (_, lines) = self.spaces.run(command);
-        let keeps_book = matches!(
-            command,
-            Command::Table(..) | Command::Injection(..) | Command::Number(..) | Command::Read { .. } | Command::Meters { .. }
-        );
+        let stores = matches!(command, Command::Table(..) | Command::Injection(..) | Command::Number(..));
+        let keeps_book = stores || matches!(command, Command::Read { .. } | Command::Move { .. } | Command::Meters { .. });
         self.fits &= keeps_book;
         self.table_true &= keeps_book && !matches!(command, Command::Table(..));
         lines

@@ -1,10 +1,12 @@
 //! The spaces a trial keeps, what the plain commands do to them, and the lines that print them.
 
 use crate::definitions::answer::Answer;
-use crate::definitions::book;
+use crate::definitions::form::Form;
 use crate::definitions::meters::{self, Registers};
+use crate::definitions::moves;
 use crate::definitions::record;
 use crate::definitions::switching::Lent;
+use crate::definitions::tables;
 use crate::trial::stream::{Command, BOOK, FLOWS, INJECTIONS, NUMBERS, TABLE};
 use std::fmt::Write;
 
@@ -16,6 +18,8 @@ pub struct Spaces {
     pub table: Vec<u8>,
     pub injections: Vec<i64>,
     pub numbers: Vec<u32>,
+    /// The second book space, which holds what a move wrote.
+    pub shelf: Vec<u8>,
 }
 
 impl Default for Spaces {
@@ -27,6 +31,7 @@ impl Default for Spaces {
             table: vec![0; TABLE],
             injections: vec![0; INJECTIONS],
             numbers: vec![0; NUMBERS],
+            shelf: vec![0; BOOK],
         }
     }
 }
@@ -52,9 +57,10 @@ impl Spaces {
         self.table.fill(170);
         self.injections.fill(7_777_777);
         self.numbers.fill(7_777_777);
+        self.shelf.fill(170);
     }
 
-    /// Does a command whose whole effect document 01 fixes and answers its lines; not for `S`, `O`, `K` and `D`.
+    /// Does a command whose whole effect the papers fix and answers its lines; not for `S`, `O`, `K` and `D`.
     pub fn run(&mut self, command: &Command) -> (Option<Answer>, Vec<String>) {
         match command {
             Command::Spoil => self.spoil(),
@@ -68,6 +74,7 @@ impl Spaces {
             Command::Number(k, v) => self.numbers[*k] = *v,
             Command::Read { injections, branches } => return self.read(*injections, *branches),
             Command::Write { .. } => return self.write(command),
+            Command::Move { form, room } => return self.move_book(*form, *room),
             Command::Meters { lists, lent, supply } => return self.meters(lists, *lent, *supply),
             Command::Screen { .. } | Command::Switch { .. } | Command::Dump => unreachable!("left to the caller"),
         }
@@ -75,35 +82,37 @@ impl Spaces {
     }
 
     fn read(&mut self, injections: usize, branches: usize) -> (Option<Answer>, Vec<String>) {
-        let read = book::unpack(self.bytes()).and_then(|book| {
-            let enough = injections >= book.injections.len() && branches >= 4 * book.branches.len();
-            if enough {
-                Ok(book)
-            } else {
-                Err(8)
-            }
-        });
+        let read = tables::read(self.bytes(), injections, branches);
         if let Ok(book) = &read {
             self.injections[..book.injections.len()].copy_from_slice(&book.injections);
-            let rows = book::rows(book);
-            self.numbers[..rows.len()].copy_from_slice(&rows);
+            let numbers = tables::numbers(book);
+            self.numbers[..numbers.len()].copy_from_slice(&numbers);
         }
         let answer = read.err().map_or(Answer::ACCEPTED, Answer::refused);
         (Some(answer), vec![format!("read {answer}"), self.injections_line(), spaced("branches", &self.numbers)])
     }
 
     fn write(&mut self, command: &Command) -> (Option<Answer>, Vec<String>) {
-        let Command::Write { buses, count, factor, injections, branches, room } = command else {
+        let Command::Write { form, buses, count, factor, injections, branches, room } = *command else {
             unreachable!("a write");
         };
-        let written =
-            book::write(*buses, *count, *factor as u32, &self.injections[..*injections], &self.numbers[..*branches], *room);
+        let (injections, numbers) = (&self.injections[..injections], &self.numbers[..branches]);
+        let written = tables::write(form, buses, count, factor as u32, injections, numbers, room);
         if let Ok(bytes) = &written {
             self.book[..bytes.len()].copy_from_slice(bytes);
             self.length = bytes.len();
         }
         let answer = written.err().map_or(Answer::ACCEPTED, Answer::refused);
         (Some(answer), vec![format!("write {answer}")])
+    }
+
+    fn move_book(&mut self, form: Form, room: usize) -> (Option<Answer>, Vec<String>) {
+        let moved = moves::moved(self.bytes(), form, room);
+        if let Ok(bytes) = &moved {
+            self.shelf[..bytes.len()].copy_from_slice(bytes);
+        }
+        let answer = moved.err().map_or(Answer::ACCEPTED, Answer::refused);
+        (Some(answer), vec![format!("moved {answer}"), self.shelf_line()])
     }
 
     fn meters(&mut self, lists: &[Vec<u32>; 4], lent: usize, supply: usize) -> (Option<Answer>, Vec<String>) {
@@ -124,6 +133,10 @@ impl Spaces {
         format!("book {} {}", self.length, hex(&self.book))
     }
 
+    pub fn shelf_line(&self) -> String {
+        format!("shelf {}", hex(&self.shelf))
+    }
+
     pub fn flow_line(&self) -> String {
         spaced("flow", &self.flow)
     }
@@ -132,7 +145,7 @@ impl Spaces {
         format!("record {number} {}", hex(record::stretch(&self.table, number)))
     }
 
-    /// The lines of a dump.
+    /// The lines of a dump, which doesn't show the shelf.
     pub fn dump(&self) -> Vec<String> {
         let records = (0..FLOWS).map(|number| self.record_line(number));
         [self.book_line(), self.flow_line()].into_iter().chain(records).collect()

@@ -1,5 +1,6 @@
 //! The commands of a trial stream: read from bytes and turned into bytes.
 
+use crate::definitions::form::Form;
 use crate::definitions::switching::Way;
 
 pub const BOOK: usize = 2_100;
@@ -19,7 +20,8 @@ pub enum Command {
     Screen { flow: usize, table: usize },
     Switch { way: Way, flow: usize, table: usize, branch: usize },
     Read { injections: usize, branches: usize },
-    Write { buses: usize, count: usize, factor: usize, injections: usize, branches: usize, room: usize },
+    Write { form: Form, buses: usize, count: usize, factor: usize, injections: usize, branches: usize, room: usize },
+    Move { form: Form, room: usize },
     Meters { lists: [Vec<u32>; 4], lent: usize, supply: usize },
     Dump,
 }
@@ -29,10 +31,10 @@ impl Command {
     pub fn call(&self) -> Option<&'static str> {
         match self {
             Command::Screen { .. } => Some("screen"),
-            Command::Switch { way: Way::Out, .. } => Some("out"),
-            Command::Switch { way: Way::Back, .. } => Some("back"),
+            Command::Switch { way, .. } => Some(way.name()),
             Command::Read { .. } => Some("read"),
             Command::Write { .. } => Some("write"),
+            Command::Move { .. } => Some("moved"),
             Command::Meters { .. } => Some("meters"),
             _ => None,
         }
@@ -109,14 +111,9 @@ impl Commands<'_> {
             b'O' => self.switch(Way::Out)?,
             b'K' => self.switch(Way::Back)?,
             b'R' => Command::Read { injections: self.two(INJECTIONS)?, branches: self.two(NUMBERS)? },
-            b'W' => Command::Write {
-                buses: self.two(65_535)?,
-                count: self.two(65_535)?,
-                factor: self.two(65_535)?,
-                injections: self.two(INJECTIONS)?,
-                branches: self.two(NUMBERS)?,
-                room: self.two(BOOK)?,
-            },
+            b'W' => self.write(Form::Old)?,
+            b'X' => self.write(Form::New)?,
+            b'L' => Command::Move { form: self.form()?, room: self.two(BOOK)? },
             b'M' => self.meters()?,
             b'D' => Command::Dump,
             _ => return Err(Bad),
@@ -125,6 +122,22 @@ impl Commands<'_> {
 
     fn switch(&mut self, way: Way) -> Result<Command, Bad> {
         Ok(Command::Switch { way, flow: self.two(FLOWS)?, table: self.two(TABLE)?, branch: self.two(65_535)? })
+    }
+
+    fn write(&mut self, form: Form) -> Result<Command, Bad> {
+        Ok(Command::Write {
+            form,
+            buses: self.two(65_535)?,
+            count: self.two(65_535)?,
+            factor: self.two(65_535)?,
+            injections: self.two(INJECTIONS)?,
+            branches: self.two(NUMBERS)?,
+            room: self.two(BOOK)?,
+        })
+    }
+
+    fn form(&mut self) -> Result<Form, Bad> {
+        Form::BOTH.get(self.number(1)? as usize).copied().ok_or(Bad)
     }
 
     fn meters(&mut self) -> Result<Command, Bad> {
@@ -160,10 +173,12 @@ pub fn bytes(command: &Command) -> Vec<u8> {
             [&letter[..], &two(flow), &two(table), &two(branch)].concat()
         }
         Command::Read { injections, branches } => [&b"R"[..], &two(injections), &two(branches)].concat(),
-        Command::Write { buses, count, factor, injections, branches, room } => {
+        Command::Write { form, buses, count, factor, injections, branches, room } => {
+            let letter = if *form == Form::Old { b"W" } else { b"X" };
             let numbers = [buses, count, factor, injections, branches, room].map(two);
-            [&b"W"[..], numbers.as_flattened()].concat()
+            [&letter[..], numbers.as_flattened()].concat()
         }
+        Command::Move { form, room } => [&b"L"[..], &[form.layout_bit() as u8], &two(room)].concat(),
         Command::Meters { lists, lent, supply } => {
             let mut bytes = vec![b'M'];
             bytes.extend(lists.iter().map(|list| list.len() as u8));

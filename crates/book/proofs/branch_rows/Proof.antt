@@ -7,26 +7,30 @@ use Rattle.book.proofs.branch_rows.Statement.{statement}
 use Rattle.book.proofs.branch_rows.Tie as tie
 
 abbrev Inv-loop : tie.InvT-loop
-Inv-loop book buses branches factor first₀ second₀ served₀ limit₀ k₀ first second served limit k =
-    Branching book buses branches factor first₀ second₀ served₀ limit₀ first second served limit k
+Inv-loop book form buses branches factor first₀ second₀ served₀ limit₀ k₀ first second served limit k =
+    Branching form book buses branches factor first₀ second₀ served₀ limit₀ first second served limit k
 
 abbrev μ-loop : tie.MeasureT-loop
-μ-loop book buses branches factor first₀ second₀ served₀ limit₀ k₀ first second served limit k = branches - k
+μ-loop book form buses branches factor first₀ second₀ served₀ limit₀ k₀ first second served limit k = branches - k
 
 loop-holds : tie.Need-loop-holds Inv-loop μ-loop
-loop-holds c = branching-start _ _ _ _ _ _ _ _
+loop-holds c = branching-start _ _ _ _ _ _ _ _ _
 
 branch-at-requires : tie.Need-branch-at-requires Inv-loop μ-loop
 branch-at-requires c κs = search needs
 
 cast-first : tie.Need-cast-first Inv-loop μ-loop
-cast-first c = let w = ends-fit _ _ _ _ (c .before .branch-at .ensures) in omega (arith, w .first-fits)
+cast-first c =
+    let l = c .before .before in
+    let w = ends-fit (l .before .before .before .args .h .form) _ _ (l .before .loop .k) _ (c .before .branch-at .ensures) in omega (arith, w .first-fits)
 
 array-write-first : tie.Need-array-write-first Inv-loop μ-loop
 array-write-first c = omega arith
 
 cast-second : tie.Need-cast-second Inv-loop μ-loop
-cast-second c = let w = ends-fit _ _ _ _ (c .before .before .branch-at .ensures) in omega (arith, w .second-fits)
+cast-second c =
+    let l = c .before .before .before in
+    let w = ends-fit (l .before .before .before .args .h .form) _ _ (l .before .loop .k) _ (c .before .before .branch-at .ensures) in omega (arith, w .second-fits)
 
 array-write-second : tie.Need-array-write-second Inv-loop μ-loop
 array-write-second c = omega arith
@@ -53,7 +57,7 @@ loop-again : tie.Need-loop-again Inv-loop μ-loop
 loop-again c =
     let x = c .before .before .before .before in
     let l = x .before in
-    branching-more _ _ _ _ _ _ _ _ _ _ _ (l .loop-test .taken) (l .before .before .before .pre .1) (l .before .loop .inv) (x .branch-at .ensures) (c .limit-of .ensures)
+    branching-more _ _ _ _ _ _ _ _ _ _ _ _ (l .loop-test .taken) (l .before .before .before .pre .1) (l .before .loop .inv) (x .branch-at .ensures) (c .limit-of .ensures)
 
 returns : tie.Need-returns Inv-loop μ-loop
 returns c = branching-end _ _ _ _ _ _ _ (c .loop-test .left) (c .before .loop .inv)

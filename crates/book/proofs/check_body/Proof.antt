@@ -18,8 +18,8 @@ buses-sound c = sym (c .before .before .first-bus-fault .ensures) ∙ c .enum-to
 branches-sound : (c : tie.After-enum-told4) → let a = c .before .before .before .before .before .before .before .args in firstFault (branchFaultAt (a .book .now)) (a .h .branches) ≡ Sound
 branches-sound c = sym (c .before .before .first-branch-fault .ensures) ∙ c .enum-told4 .given .1
 
-tail-is : (c : tie.After-field) → let a = c .before .before .before .before .before .before .before .before .before .args in c .field .result ≡ field (a .book .now) (bitsFor (a .h .buses) (a .h .branches)) 7
-tail-is c = let a = c .before .before .before .before .before .before .before .before .before .args in c .field .ensures ∙ ap (λ (p : ℕ). field (a .book .now) p 7) (c .before .branch-place .ensures)
+tail-is : (c : tie.After-field) → let a = c .before .before .before .before .before .before .before .before .before .args in c .field .result ≡ field (a .book .now) (bitsFor (a .h .form) (a .h .buses) (a .h .branches)) 7
+tail-is c = let a = c .before .before .before .before .before .before .before .before .before .args in c .field .ensures ∙ ap (λ (p : ℕ). field (a .book .now) p 7) (c .before .branch-place .ensures .place-is)
 
 first-bus-fault-requires : tie.Need-first-bus-fault-requires
 first-bus-fault-requires c κs = search needs

@@ -1,60 +1,57 @@
--- `fill_branches` fills a table with four numbers a branch.
+-- `fill_branches` fills a table with the numbers of the branches, stretch by stretch.
 use borrow.Author.Needs.{needs}
 use native.Mathlib.Omega.{arith}
-use Prim.Native.Nat.{_-_}
-use lib.ListN.{length-set}
+use mathlib.Core.Path.{refl}
+use Prim.Native.Nat.{_+_, _-_, _≤_}
+use lib.ListN.{length, length-take, length-drop}
 use Rattle.layout.specs.Layout.{branchAfter}
+use Rattle.layout.proofs.Forms.{row-room}
 use Rattle.book.proofs.Filling.{Tabling, table-start, table-turn, table-end}
 use Rattle.book.proofs.fill_branches.Statement.{statement}
 use Rattle.book.proofs.fill_branches.Tie as tie
 
 abbrev Inv-loop : tie.InvT-loop
-Inv-loop book buses branches out₀ k₀ out k = Tabling (branchAfter buses book) branches out₀ out k
+Inv-loop book out₀ form buses branches k₀ out k = Tabling form (branchAfter form buses book) branches out₀ out k
 
 abbrev μ-loop : tie.MeasureT-loop
-μ-loop book buses branches out₀ k₀ out k = branches - k
+μ-loop book out₀ form buses branches k₀ out k = branches - k
 
 loop-holds : tie.Need-loop-holds Inv-loop μ-loop
-loop-holds c = table-start _ _ _
+loop-holds c = table-start _ _ _ _
 
 branch-at-requires : tie.Need-branch-at-requires Inv-loop μ-loop
 branch-at-requires c κs = search needs
 
-mul-at : tie.Need-mul-at Inv-loop μ-loop
-mul-at c = omega arith
+-- The stretch of branch k lies within the table.
+room : (c : tie.After-fields Inv-loop μ-loop) → c .before .numbers .result + c .fields .result ≤ length (c .before .before .before .before .loop .out)
+room c =
+    let l = c .before .before .before in
+    let s = l .before .before .before .before in
+    omega (arith, row-room (s .args .h .form) (l .before .loop .k) (s .args .h .branches) (l .loop-test .taken), c .before .numbers .ensures .count-is, c .fields .ensures .count-is, s .pre .2, l .before .loop .inv .long)
 
-mul-out : tie.Need-mul-out Inv-loop μ-loop
-mul-out c = omega arith
+numbers-requires : tie.Need-numbers-requires Inv-loop μ-loop
+numbers-requires c κs = search needs
 
-slice-write-out : tie.Need-slice-write-out Inv-loop μ-loop
-slice-write-out c = omega arith
+fields-requires : tie.Need-fields-requires Inv-loop μ-loop
+fields-requires c κs = search needs
 
-add-out : tie.Need-add-out Inv-loop μ-loop
-add-out c = omega arith
+add-e : tie.Need-add-e Inv-loop μ-loop
+add-e c = search needs
 
-mul-out-2 : tie.Need-mul-out-2 Inv-loop μ-loop
-mul-out-2 c = omega arith
+mul-fill-row : tie.Need-mul-fill-row Inv-loop μ-loop
+mul-fill-row c = omega arith
 
-slice-write-out-2 : tie.Need-slice-write-out-2 Inv-loop μ-loop
-slice-write-out-2 c = simp length-set (omega arith)
+sub-fill-row : tie.Need-sub-fill-row Inv-loop μ-loop
+sub-fill-row c = omega arith
 
-add-out-2 : tie.Need-add-out-2 Inv-loop μ-loop
-add-out-2 c = omega arith
+part-fill-row-start : tie.Need-part-fill-row-start Inv-loop μ-loop
+part-fill-row-start c = omega (arith, room c)
 
-mul-out-3 : tie.Need-mul-out-3 Inv-loop μ-loop
-mul-out-3 c = omega arith
+part-fill-row-end : tie.Need-part-fill-row-end Inv-loop μ-loop
+part-fill-row-end c = omega (arith, room c)
 
-slice-write-out-3 : tie.Need-slice-write-out-3 Inv-loop μ-loop
-slice-write-out-3 c = simp length-set (omega arith)
-
-add-out-3 : tie.Need-add-out-3 Inv-loop μ-loop
-add-out-3 c = omega arith
-
-mul-out-4 : tie.Need-mul-out-4 Inv-loop μ-loop
-mul-out-4 c = omega arith
-
-slice-write-out-4 : tie.Need-slice-write-out-4 Inv-loop μ-loop
-slice-write-out-4 c = simp length-set (omega arith)
+fill-row-requires : tie.Need-fill-row-requires Inv-loop μ-loop
+fill-row-requires c κs = let z = c .before in simp (length-take, length-drop) (omega (arith, room z, z .fields .ensures .count-is))
 
 add-k : tie.Need-add-k Inv-loop μ-loop
 add-k c = omega arith
@@ -64,14 +61,20 @@ loop-less c = omega arith
 
 loop-again : tie.Need-loop-again Inv-loop μ-loop
 loop-again c =
-    let l = c .before in
-    table-turn _ _ _ _ _ _ (l .loop-test .taken) (l .before .before .before .before .pre .2) (l .before .loop .inv) (c .branch-at .ensures)
+    let r = c .before .before in
+    let z = r .before .before in
+    let b = z .before .before in
+    let l = b .before in
+    let s = l .before .before .before .before in
+    let a = z .before .numbers .result in
+    table-turn _ _ _ _ _ _ _ a (a + z .fields .result - a) _ (l .loop-test .taken) (s .pre .2) (l .before .loop .inv)
+    (z .before .numbers .ensures .count-is) (omega (arith, z .fields .ensures .count-is)) (b .branch-at .ensures) (rw (r .fill-row .ensures) refl)
 
 same-length : tie.Need-same-length Inv-loop μ-loop
 same-length c = c .before .loop .inv .long
 
 returns : tie.Need-returns Inv-loop μ-loop
-returns c = table-end _ _ _ _ _ (c .loop-test .left) (c .before .loop .inv)
+returns c = table-end _ _ _ _ _ _ (c .loop-test .left) (c .before .loop .inv)
 
 pub fill-branches-spec : {M : Type 1} → statement M
 fill-branches-spec =
@@ -81,18 +84,14 @@ fill-branches-spec =
     μ-loop
     loop-holds
     branch-at-requires
-    mul-at
-    mul-out
-    slice-write-out
-    add-out
-    mul-out-2
-    slice-write-out-2
-    add-out-2
-    mul-out-3
-    slice-write-out-3
-    add-out-3
-    mul-out-4
-    slice-write-out-4
+    numbers-requires
+    fields-requires
+    add-e
+    mul-fill-row
+    sub-fill-row
+    part-fill-row-start
+    part-fill-row-end
+    fill-row-requires
     add-k
     loop-less
     loop-again

@@ -3,19 +3,20 @@ use borrow.Author.Needs.{needs}
 use native.Mathlib.Omega.{arith}
 use mathlib.Core.Path.{_≡_, ap, _∙_}
 use Prim.Native.Nat.{ℕ, _-_}
+use Rattle.layout.specs.declared.Form.{Form}
 use Rattle.layout.specs.declared.Branch.{Branch}
 use Rattle.layout.specs.Fault.{branchFault}
-use Rattle.layout.specs.Layout.{branchAfter}
+use Rattle.layout.specs.Layout.{formIn, branchAfter}
 use Rattle.layout.specs.Check.{branchFaultAt}
 use Rattle.layout.proofs.FirstFault.{Scanned, scan-start, scan-more, scan-stop, scan-end}
 use Rattle.book.proofs.first_branch_fault.Statement.{statement}
 use Rattle.book.proofs.first_branch_fault.Tie as tie
 
 abbrev Inv-loop : tie.InvT-loop
-Inv-loop book buses branches k₀ k = Scanned (branchFaultAt book) branches k
+Inv-loop book form buses branches k₀ k = Scanned (branchFaultAt book) branches k
 
 abbrev μ-loop : tie.MeasureT-loop
-μ-loop book buses branches k₀ k = branches - k
+μ-loop book form buses branches k₀ k = branches - k
 
 loop-holds : tie.Need-loop-holds Inv-loop μ-loop
 loop-holds c = scan-start _ _
@@ -32,8 +33,9 @@ told c =
     let bs = s .args .book .now in
     let k = c .before .before .before .loop .k in
     c .branch-fault .ensures
-    ∙ ap (λ (x : Branch). branchFault (s .args .buses) x) (c .before .branch-at .ensures)
-    ∙ ap (λ (n : ℕ). branchFault n (branchAfter n bs k)) (s .pre .0)
+    ∙ ap (λ (x : Branch). branchFault (s .args .form) (s .args .buses) x) (c .before .branch-at .ensures)
+    ∙ ap (λ (f : Form). branchFault f (s .args .buses) (branchAfter f (s .args .buses) bs k)) (s .pre .0)
+    ∙ ap (λ (n : ℕ). branchFault (formIn bs) n (branchAfter (formIn bs) n bs k)) (s .pre .1)
 
 returns : tie.Need-returns Inv-loop μ-loop
 returns c =

@@ -1,9 +1,11 @@
 -- `read_book` keeps its promise: a refusal leaves both tables, and an accepted book fills them.
 use borrow.Author.Needs.{needs}
-use native.Mathlib.Omega.{arith}
 use mathlib.Core.Path.{sym, _∙_}
+use Prim.Native.Nat.{_*_, _≤_}
+use lib.ListN.{length}
 use Rattle.answer.proofs.Refusals.{not-accepted}
 use Rattle.bits.specs.Field.{Bytes}
+use Rattle.layout.specs.Form.{fields}
 use Rattle.layout.proofs.AcceptedWhere.{InRange}
 use Rattle.book.proofs.RowsHoldBook.{head-in-range}
 use Rattle.book.proofs.ReadEnds.{read-refused, read-few-injections, read-few-branches, read-done}
@@ -17,6 +19,9 @@ range : (c : tie.After-enum-told) → let h = c .before .before .before .head-of
 range c =
     let o = c .before .before in
     head-in-range _ _ (o .before .head-of .ensures) (sym (o .check-with .ensures) ∙ c .enum-told .given .1)
+
+long : (c : tie.Else2) → let h = c .before .before .before .before .before .before .head-of .result in fields (h .form) * h .branches ≤ length (c .before .before .before .before .before .before .before .before .before .args .branches .now)
+long c = rw (c .before .numbers .ensures .count-is) at (c .if2 .left)
 
 head-of-requires : tie.Need-head-of-requires
 head-of-requires c κs = search needs
@@ -48,8 +53,8 @@ returns-2 c =
     read-few-injections _ _ _ (bytes (o .before .before)) _ (o .check-with .ensures) (e .enum-told .given .1) _ (o .before .head-of .ensures) _ _
     (c .before .before .if1 .taken) (c .before .refuse .ensures) (c .answer-with2 .ensures)
 
-mul-if2 : tie.Need-mul-if2
-mul-if2 c = omega (arith, range (c .before) .few-branches)
+numbers-requires : tie.Need-numbers-requires
+numbers-requires c κs = range (c .before) .few-branches
 
 refuse-requires-2 : tie.Need-refuse-requires-2
 refuse-requires-2 c κs = search needs
@@ -59,19 +64,20 @@ answer-with-requires-3 c κs = search needs
 
 returns-3 : tie.Need-returns-3
 returns-3 c =
-    let e = c .before .before .before .before in
+    let n = c .before .before .before in
+    let e = n .before .before in
     let o = e .before .before in
     read-few-branches _ _ _ (bytes (o .before .before)) _ (o .check-with .ensures) (e .enum-told .given .1) _ (o .before .head-of .ensures) _ _
-    (c .before .before .before .if1 .left) (c .before .before .if2 .taken) (c .before .refuse2 .ensures) (c .answer-with3 .ensures)
+    (n .before .if1 .left) (rw (n .numbers .ensures .count-is) at (c .before .before .if2 .taken)) (c .before .refuse2 .ensures) (c .answer-with3 .ensures)
 
 fill-injections-requires : tie.Need-fill-injections-requires
-fill-injections-requires c κs = let e = c .before .before in (range (e .before) .few-buses, e .if1 .left)
+fill-injections-requires c κs = let e = c .before .before .before in (range (e .before) .few-buses, e .if1 .left)
 
 fill-branches-requires : tie.Need-fill-branches-requires
 fill-branches-requires c κs =
     let e = c .before .before .before .before in
-    let r = range (e .before .before) in
-    (r .few-buses, r .few-branches, e .if2 .left)
+    let r = range (e .before .before .before) in
+    (r .few-buses, r .few-branches, long e)
 
 answer-with-requires-4 : tie.Need-answer-with-requires-4
 answer-with-requires-4 c κs = search needs
@@ -87,10 +93,10 @@ returns-4 c =
     let b = c .before .before .before in
     let i = b .before .before .before in
     let t = i .before .before in
-    let e = t .before .before in
+    let e = t .before .before .before in
     let o = e .before .before in
     read-done _ _ _ (bytes (o .before .before)) _ (o .check-with .ensures) (e .enum-told .given .1) _ (o .before .head-of .ensures) _ _ _
-    (t .before .if1 .left) (t .if2 .left) (i .fill-injections .ensures) (b .fill-branches .ensures) (c .answer-with4 .ensures)
+    (t .before .before .if1 .left) (long t) (i .fill-injections .ensures) (b .fill-branches .ensures) (c .answer-with4 .ensures)
 
 pub read-book-spec : {M : Type 1} → statement M
 read-book-spec =
@@ -104,7 +110,7 @@ read-book-spec =
     refuse-requires
     answer-with-requires-2
     returns-2
-    mul-if2
+    numbers-requires
     refuse-requires-2
     answer-with-requires-3
     returns-3

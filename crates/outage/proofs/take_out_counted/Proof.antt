@@ -185,7 +185,7 @@ set-status-requires : tie.Need-set-status-requires
 set-status-requires c κs =
     let f = c .before .before .before .before .before .before in
     let s = sizes-at (surveyed (replaced (cut-of f))) in
-    (s .0, omega (arith, s .1, s .2), omega arith)
+    (omega (arith, s .1, s .2), omega arith)
 
 told-requires-3 : tie.Need-told-requires-3
 told-requires-3 c κs = search needs

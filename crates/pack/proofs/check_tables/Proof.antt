@@ -1,10 +1,12 @@
 -- `check_tables` refuses in the writer's order: each return by one law.
 use borrow.Author.Needs.{needs}
-use native.Mathlib.Omega.{arith}
 use mathlib.Core.Path.{_≡_, sym, _∙_}
 use mathlib.Core.Bool.{false}
+use Prim.Native.Nat.{_*_, _≤_}
+use lib.ListN.{length}
 use borrow.Author.Tests.{not-true, not-false}
 use Rattle.layout.specs.declared.Fault.the-variants.{Sound}
+use Rattle.layout.specs.Form.{fields}
 use Rattle.layout.specs.Fault.{firstFault}
 use Rattle.layout.specs.Check.{outside}
 use Rattle.layout.proofs.AcceptedWhere.{InRange, in-range}
@@ -19,10 +21,13 @@ inside c = sym (c .before .is-outside .ensures) ∙ c .if1 .left
 range : (c : tie.Else1) → let a = c .before .before .before .args in InRange (a .buses) (a .count) (a .factor)
 range c = let a = c .before .before .before .args in in-range (a .buses) (a .count) (a .factor) (inside c)
 
-entries : (c : tie.After-enum-told2) → let a = c .before .before .before .before .before .before .before .before .args in firstFault (entryFault (a .injections .now)) (a .buses) ≡ Sound
+long : (c : tie.Else3) → let a = c .before .before .before .before .before .before .args in fields (a .form) * a .count ≤ length (a .branches .now)
+long c = rw (c .before .numbers .ensures .count-is) at (c .if3 .left)
+
+entries : (c : tie.After-enum-told2) → let a = c .before .before .before .before .before .before .before .before .before .args in firstFault (entryFault (a .injections .now)) (a .buses) ≡ Sound
 entries c = sym (c .before .before .first-entry-fault .ensures) ∙ c .enum-told2 .given .1
 
-faultless : (c : tie.After-enum-told4) → let a = c .before .before .before .before .before .before .before .before .before .before .before .args in firstFault (rowFault (a .buses) (a .branches .now)) (a .count) ≡ Sound
+faultless : (c : tie.After-enum-told4) → let a = c .before .before .before .before .before .before .before .before .before .before .before .before .args in firstFault (rowFault (a .form) (a .buses) (a .branches .now)) (a .count) ≡ Sound
 faultless c = sym (c .before .before .first-row-fault .ensures) ∙ c .enum-told4 .given .1
 
 is-outside-requires : tie.Need-is-outside-requires
@@ -32,22 +37,22 @@ refuse-requires : tie.Need-refuse-requires
 refuse-requires c κs = search needs
 
 returns : tie.Need-returns
-returns c = c .refuse .ensures ∙ write-outside _ _ _ _ _ _ (sym (c .before .before .is-outside .ensures) ∙ c .before .if1 .taken)
+returns c = c .refuse .ensures ∙ write-outside _ _ _ _ _ _ _ (sym (c .before .before .is-outside .ensures) ∙ c .before .if1 .taken)
 
 refuse-requires-2 : tie.Need-refuse-requires-2
 refuse-requires-2 c κs = search needs
 
 returns-2 : tie.Need-returns-2
-returns-2 c = c .refuse2 .ensures ∙ write-few-injections _ _ _ _ _ _ (inside (c .before .before)) (c .before .if2 .taken)
+returns-2 c = c .refuse2 .ensures ∙ write-few-injections _ _ _ _ _ _ _ (inside (c .before .before)) (c .before .if2 .taken)
 
-mul-if3 : tie.Need-mul-if3
-mul-if3 c = omega (arith, range (c .before) .few-branches)
+numbers-requires : tie.Need-numbers-requires
+numbers-requires c κs = range (c .before) .few-branches
 
 refuse-requires-3 : tie.Need-refuse-requires-3
 refuse-requires-3 c κs = search needs
 
 returns-3 : tie.Need-returns-3
-returns-3 c = c .refuse3 .ensures ∙ write-few-branches _ _ _ _ _ _ (inside (c .before .before .before)) (c .before .before .if2 .left) (c .before .if3 .taken)
+returns-3 c = c .refuse3 .ensures ∙ write-few-branches _ _ _ _ _ _ _ (inside (c .before .before .before .before)) (c .before .before .before .if2 .left) (rw (c .before .before .numbers .ensures .count-is) at (c .before .if3 .taken))
 
 first-entry-fault-requires : tie.Need-first-entry-fault-requires
 first-entry-fault-requires c κs = search needs
@@ -63,13 +68,13 @@ returns-4 c =
     let s = c .before .before .before in
     let e = s .before in
     c .refuse4 .ensures
-    ∙ write-entry _ _ _ _ _ _ (inside (e .before .before)) (e .before .if2 .left) (e .if3 .left) _ _ (sym (s .first-entry-fault .ensures) ∙ c .before .enum-told .given .1)
+    ∙ write-entry _ _ _ _ _ _ _ (inside (e .before .before .before)) (e .before .before .if2 .left) (long e) _ _ (sym (s .first-entry-fault .ensures) ∙ c .before .enum-told .given .1)
 
 enum-told-2 : tie.Need-enum-told-2
 enum-told-2 c = search needs
 
 first-row-fault-requires : tie.Need-first-row-fault-requires
-first-row-fault-requires c κs = let e = c .before .before .before in (range (e .before .before) .few-branches, e .if3 .left)
+first-row-fault-requires c κs = let e = c .before .before .before in (range (e .before .before .before) .few-branches, long e)
 
 enum-told-3 : tie.Need-enum-told-3
 enum-told-3 c = search needs
@@ -82,7 +87,7 @@ returns-5 c =
     let t = c .before .before .before in
     let e = t .before .before .before .before in
     c .refuse5 .ensures
-    ∙ write-row _ _ _ _ _ _ (inside (e .before .before)) (e .before .if2 .left) (e .if3 .left) (entries (t .before)) _ _ (sym (t .first-row-fault .ensures) ∙ c .before .enum-told3 .given .1)
+    ∙ write-row _ _ _ _ _ _ _ (inside (e .before .before .before)) (e .before .before .if2 .left) (long e) (entries (t .before)) _ _ (sym (t .first-row-fault .ensures) ∙ c .before .enum-told3 .given .1)
 
 enum-told-4 : tie.Need-enum-told-4
 enum-told-4 c = search needs
@@ -91,7 +96,7 @@ is-balanced-requires : tie.Need-is-balanced-requires
 is-balanced-requires c κs =
     let t = c .before .before in
     let e = t .before .before .before .before in
-    (range (e .before .before) .few-buses, e .before .if2 .left, entries (t .before))
+    (range (e .before .before .before) .few-buses, e .before .before .if2 .left, entries (t .before))
 
 refuse-requires-6 : tie.Need-refuse-requires-6
 refuse-requires-6 c κs = search needs
@@ -102,12 +107,12 @@ returns-6 c =
     let t = l .before .before .before in
     let e = t .before .before .before .before in
     c .refuse6 .ensures
-    ∙ write-sum _ _ _ _ _ _ (inside (e .before .before)) (e .before .if2 .left) (e .if3 .left) (entries (t .before)) (faultless (l .before)) (sym (l .is-balanced .ensures) ∙ not-true _ (c .before .if4 .taken))
+    ∙ write-sum _ _ _ _ _ _ _ (inside (e .before .before .before)) (e .before .before .if2 .left) (long e) (entries (t .before)) (faultless (l .before)) (sym (l .is-balanced .ensures) ∙ not-true _ (c .before .if4 .taken))
 
 bytes-for-requires : tie.Need-bytes-for-requires
 bytes-for-requires c κs =
     let e = c .before .before .before .before .before .before .before .before in
-    (range (e .before .before) .few-buses, range (e .before .before) .few-branches)
+    (range (e .before .before .before) .few-buses, range (e .before .before .before) .few-branches)
 
 refuse-requires-7 : tie.Need-refuse-requires-7
 refuse-requires-7 c κs = search needs
@@ -119,7 +124,7 @@ returns-7 c =
     let t = l .before .before .before in
     let e = t .before .before .before .before in
     c .refuse7 .ensures
-    ∙ write-room _ _ _ _ _ _ (inside (e .before .before)) (e .before .if2 .left) (e .if3 .left) (entries (t .before)) (faultless (l .before)) (sym (l .is-balanced .ensures) ∙ not-false _ (y .before .if4 .left)) _ (y .bytes-for .ensures) (c .before .if5 .taken)
+    ∙ write-room _ _ _ _ _ _ _ (inside (e .before .before .before)) (e .before .before .if2 .left) (long e) (entries (t .before)) (faultless (l .before)) (sym (l .is-balanced .ensures) ∙ not-false _ (y .before .if4 .left)) _ (y .bytes-for .ensures) (c .before .if5 .taken)
 
 returns-8 : tie.Need-returns-8
 returns-8 c =
@@ -127,7 +132,7 @@ returns-8 c =
     let l = y .before .before in
     let t = l .before .before .before in
     let e = t .before .before .before .before in
-    write-good _ _ _ _ _ _ (inside (e .before .before)) (e .before .if2 .left) (e .if3 .left) (entries (t .before)) (faultless (l .before)) (sym (l .is-balanced .ensures) ∙ not-false _ (y .before .if4 .left)) _ (y .bytes-for .ensures) (c .if5 .left)
+    write-good _ _ _ _ _ _ _ (inside (e .before .before .before)) (e .before .before .if2 .left) (long e) (entries (t .before)) (faultless (l .before)) (sym (l .is-balanced .ensures) ∙ not-false _ (y .before .if4 .left)) _ (y .bytes-for .ensures) (c .if5 .left)
 
 pub check-tables-spec : {M : Type 1} → statement M
 check-tables-spec =
@@ -138,7 +143,7 @@ check-tables-spec =
     returns
     refuse-requires-2
     returns-2
-    mul-if3
+    numbers-requires
     refuse-requires-3
     returns-3
     first-entry-fault-requires

@@ -5,28 +5,29 @@ use mathlib.Core.Path.{_≡_, ap, _∙_}
 use Prim.Native.Nat.{_-_}
 use Rattle.layout.specs.declared.Branch.{Branch}
 use Rattle.layout.specs.Fault.{branchFault}
+use Rattle.layout.proofs.Forms.{row-room}
 use Rattle.layout.proofs.FirstFault.{Scanned, scan-start, scan-more, scan-stop, scan-end}
 use Rattle.pack.specs.Write.{rowFault}
 use Rattle.pack.proofs.first_row_fault.Statement.{statement}
 use Rattle.pack.proofs.first_row_fault.Tie as tie
 
 abbrev Inv-loop : tie.InvT-loop
-Inv-loop branches buses count k₀ k = Scanned (rowFault buses branches) count k
+Inv-loop branches form buses count k₀ k = Scanned (rowFault form buses branches) count k
 
 abbrev μ-loop : tie.MeasureT-loop
-μ-loop branches buses count k₀ k = count - k
+μ-loop branches form buses count k₀ k = count - k
 
 loop-holds : tie.Need-loop-holds Inv-loop μ-loop
 loop-holds c = scan-start _ _
 
 row-at-requires : tie.Need-row-at-requires Inv-loop μ-loop
-row-at-requires c κs = search needs
+row-at-requires c κs = let s = c .before .before .before in (omega arith, omega (arith, row-room (s .args .form) (c .before .loop .k) (s .args .count) (c .loop-test .taken)))
 
 branch-fault-requires : tie.Need-branch-fault-requires Inv-loop μ-loop
 branch-fault-requires c κs = search needs
 
-told : (c : tie.After-branch-fault Inv-loop μ-loop) → c .branch-fault .result ≡ rowFault (c .before .before .before .before .before .args .buses) (c .before .before .before .before .before .args .branches .now) (c .before .before .before .loop .k)
-told c = c .branch-fault .ensures ∙ ap (λ (x : Branch). branchFault (c .before .before .before .before .before .args .buses) x) (c .before .row-at .ensures)
+told : (c : tie.After-branch-fault Inv-loop μ-loop) → c .branch-fault .result ≡ rowFault (c .before .before .before .before .before .args .form) (c .before .before .before .before .before .args .buses) (c .before .before .before .before .before .args .branches .now) (c .before .before .before .loop .k)
+told c = c .branch-fault .ensures ∙ ap (λ (x : Branch). branchFault (c .before .before .before .before .before .args .form) (c .before .before .before .before .before .args .buses) x) (c .before .row-at .ensures)
 
 returns : tie.Need-returns Inv-loop μ-loop
 returns c =

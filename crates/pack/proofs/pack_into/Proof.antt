@@ -5,8 +5,8 @@ use Rattle.pack.proofs.Writable.{Writable, write-accepted, written}
 use Rattle.pack.proofs.pack_into.Statement.{statement}
 use Rattle.pack.proofs.pack_into.Tie as tie
 
-good : (c : tie.Start) → let a = c .args in Writable (a .buses) (a .count) (a .factor) (a .injections .now) (a .branches .now) (length (a .out .now))
-good c = let a = c .args in write-accepted (a .buses) (a .count) (a .factor) (a .injections .now) (a .branches .now) (length (a .out .now)) (c .pre .1)
+good : (c : tie.Start) → let a = c .args in Writable (a .form) (a .buses) (a .count) (a .factor) (a .injections .now) (a .branches .now) (length (a .out .now))
+good c = let a = c .args in write-accepted (a .form) (a .buses) (a .count) (a .factor) (a .injections .now) (a .branches .now) (length (a .out .now)) (c .pre .1)
 
 clear-requires : tie.Need-clear-requires
 clear-requires c κs = search needs
@@ -30,7 +30,7 @@ returns c =
     let c₁ = c₂ .before .before .before .before in
     let c₀ = c₁ .before .before .before .before in
     let s = c₀ .before .before .before .before in
-    written _ _ _ _ _ (s .args .out .now) _ _ _ _ (s .pre .0) (c₀ .clear .ensures) (c₁ .put-head .ensures) (c₂ .put-buses .ensures) (c₃ .put-branches .ensures)
+    written _ _ _ _ _ _ (s .args .out .now) _ _ _ _ (s .pre .0) (c₀ .clear .ensures) (c₁ .put-head .ensures) (c₂ .put-buses .ensures) (c₃ .put-branches .ensures)
 
 pub pack-into-spec : {M : Type 1} → statement M
 pack-into-spec =

@@ -9,11 +9,11 @@ use Rattle.pack.proofs.Writable.{Writable, writable, exact-fits, write-
 use Rattle.pack.proofs.write_book.Statement.{statement}
 use Rattle.pack.proofs.write_book.Tie as tie
 
-good : (c : tie.After-enum-told) → let a = c .before .before .before .before .before .args in Writable (a .buses) (a .count) (a .factor) (a .injections .now) (a .branches .now) (length (a .out .now))
+good : (c : tie.After-enum-told) → let a = c .before .before .before .before .before .args in Writable (a .form) (a .buses) (a .count) (a .factor) (a .injections .now) (a .branches .now) (length (a .out .now))
 good c =
     let o = c .before .before in
     let a = o .before .before .before .args in
-    writable (a .buses) (a .count) (a .factor) (a .injections .now) (a .branches .now) (a .out .now) _ (o .check-tables .ensures) (c .enum-told .given .1)
+    writable (a .form) (a .buses) (a .count) (a .factor) (a .injections .now) (a .branches .now) (a .out .now) _ (o .check-tables .ensures) (c .enum-told .given .1)
 
 part-long : (c : tie.After-pack-into-arg) → length (take (c .before .bytes-for .result) (c .before .before .before .before .before .before .before .args .out .now)) ≡ c .before .bytes-for .result
 part-long c = length-take-le _ _ (omega (arith, good (c .before .before) .fits, c .before .bytes-for .ensures))
@@ -30,7 +30,7 @@ answer-with-requires c κs = search needs
 returns : tie.Need-returns
 returns c =
     let o = c .before .before in
-    write-refused _ _ _ _ _ _ _ (o .check-tables .ensures) _ (not-accepted _ (c .before .match .keys2)) (c .answer-with .ensures)
+    write-refused _ _ _ _ _ _ _ _ (o .check-tables .ensures) _ (not-accepted _ (c .before .match .keys2)) (c .answer-with .ensures)
 
 bytes-for-requires : tie.Need-bytes-for-requires
 bytes-for-requires c κs = let w = good c in (omega (arith, w .range .few-buses), omega (arith, w .range .few-branches))
@@ -47,7 +47,7 @@ pack-into-requires c κs =
     let o = e .before .before in
     let a = o .before .before .before .args in
     let l = part-long c ∙ c .before .bytes-for .ensures in
-    (l, exact-fits (a .buses) (a .count) (a .factor) (a .injections .now) (a .branches .now) (a .out .now) _ (o .check-tables .ensures) (e .enum-told .given .1) (take (c .before .bytes-for .result) (a .out .now)) l)
+    (l, exact-fits (a .form) (a .buses) (a .count) (a .factor) (a .injections .now) (a .branches .now) (a .out .now) _ (o .check-tables .ensures) (e .enum-told .given .1) (take (c .before .bytes-for .result) (a .out .now)) l)
 
 answer-with-requires-2 : tie.Need-answer-with-requires-2
 answer-with-requires-2 c κs = search needs
@@ -61,7 +61,7 @@ returns-2 c =
     let y = p .before .before in
     let e = y .before in
     let o = e .before .before in
-    write-done _ _ _ _ _ _ _ (o .check-tables .ensures) (e .enum-told .given .1) _ _ _ (y .bytes-for .ensures) (p .pack-into .ensures) (c .answer-with2 .ensures)
+    write-done _ _ _ _ _ _ _ _ (o .check-tables .ensures) (e .enum-told .given .1) _ _ _ (y .bytes-for .ensures) (p .pack-into .ensures) (c .answer-with2 .ensures)
 
 pub write-book-spec : {M : Type 1} → statement M
 write-book-spec =

@@ -141,7 +141,7 @@ rewrite-requires c κs = let r = c .before .before .before in (poised r, table-r
 set-status-requires : tie.Need-set-status-requires
 set-status-requires c κs =
     let s = sizes-at (surveyed (in-hand (rows-made (c .before .before .before)))) in
-    (s .0, omega (arith, s .1, s .2), omega arith)
+    (omega (arith, s .1, s .2), omega arith)
 
 answer-with-requires-3 : tie.Need-answer-with-requires-3
 answer-with-requires-3 c κs = search needs

@@ -57,13 +57,13 @@ returns-3 : tie.Need-returns-3
 returns-3 c =
     let e = c .before .before .before .before in
     let h = e .before .before in
-    c .refuse2 .ensures ∙ by-status _ _ _ _ _ _ (ok h) (there e) _ _ (h .head-of .ensures .buses-are) (c .before .before .before .branch-at .ensures) (c .before .if2 .taken)
+    c .refuse2 .ensures ∙ by-status _ _ _ _ _ _ (ok h) (there e) _ _ _ (h .head-of .ensures .form-is) (h .head-of .ensures .buses-are) (c .before .before .before .branch-at .ensures) (c .before .if2 .taken)
 
 returns-4 : tie.Need-returns-4
 returns-4 c =
     let e = c .before .before .before in
     let h = e .before .before in
-    by-none _ _ _ _ _ _ (ok h) (there e) _ _ (h .head-of .ensures .buses-are) (c .before .before .branch-at .ensures) (c .if2 .left)
+    by-none _ _ _ _ _ _ (ok h) (there e) _ _ _ (h .head-of .ensures .form-is) (h .head-of .ensures .buses-are) (c .before .before .branch-at .ensures) (c .if2 .left)
 
 pub check-spec : {M : Type 1} → statement M
 check-spec =

@@ -37,7 +37,7 @@ returns c =
     let wrote = c .before .before .before .before .before in
     let start = wrote .before .before .before .before in
     let call = wrote .write-book in
-    let lent = part-lent (start .pre .0) (call .kept .1 .1 .1 .1 .1 .0) in
+    let lent = part-lent (start .pre .0) (call .kept .1 .1 .1 .1 .1 .1 .0) in
     not-written _ (call .result) lent (call .ensures) (not-accepted _ (c .match .keys2)) (start .pre .1)
 
 bytes-for-requires : tie.Need-bytes-for-requires
@@ -55,7 +55,7 @@ returns-2 c =
     let accepted = c .before .enum-told .given .1 in
     let call = wrote .write-book in
     let w = written (call .ensures) accepted in
-    let lent = part-lent (start .pre .0) (call .kept .1 .1 .1 .1 .1 .0) in
+    let lent = part-lent (start .pre .0) (call .kept .1 .1 .1 .1 .1 .1 .0) in
     let part = mid-len 0 (start .args .room) (start .args .book .now) (start .pre .0) in
     let bytes = c .bytes-for .ensures in
     written-into _ (call .result) lent (call .ensures) accepted bytes (omega (arith, w .fits, part, start .pre .0, bytes))

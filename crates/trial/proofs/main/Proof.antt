@@ -10,11 +10,13 @@ use Rattle.trial.proofs.main.Statement.{statement}
 use Rattle.trial.proofs.main.Tie as tie
 
 abbrev Inv-loop : tie.InvT-loop
-Inv-loop input₀ book₀ flow₀ table₀ injections₀ branches₀ bytes₀ at₀ end₀ turns₀ t13 input book flow table injections branches bytes at end turns =
-    (at ≤ end) × (end ≤ 65536) × (length input ≡ 65536) × (bytes ≤ 2100) × (length t13 ≡ 12)
+Inv-loop input₀ book₀ flow₀ table₀ injections₀ branches₀ shelf₀ bytes₀ at₀ end₀ turns₀ t14
+    input book flow table injections branches shelf bytes at end turns =
+    (at ≤ end) × (end ≤ 65536) × (length input ≡ 65536) × (bytes ≤ 2100) × (length t14 ≡ 12)
 
 abbrev μ-loop : tie.MeasureT-loop
-μ-loop input₀ book₀ flow₀ table₀ injections₀ branches₀ bytes₀ at₀ end₀ turns₀ t13 input book flow table injections branches bytes at end turns =
+μ-loop input₀ book₀ flow₀ table₀ injections₀ branches₀ shelf₀ bytes₀ at₀ end₀ turns₀ t14
+    input book flow table injections branches shelf bytes at end turns =
     turns
 
 loop-holds : tie.Need-loop-holds Inv-loop μ-loop
@@ -62,7 +64,7 @@ loop-less c = omega arith
 loop-again : tie.Need-loop-again Inv-loop μ-loop
 loop-again c =
     let run = c .before .before .before in
-    let ready = run .before .before .before .before .before .before .before .before .before .before in
+    let ready = run .before .before .before .before .before .before .before .before .before .before .before in
     let inv = ready .before .before .before .loop .inv in
     let w = ready .ready .result in
     let e = ready .ready .ensures in

@@ -1,6 +1,7 @@
-//! The named books and inputs whose lists are stored: document 01's two books, marked examples, damaged inputs.
+//! The named books and inputs whose lists are stored: document 01's two books in either form, marked examples, damaged
+//! and too long inputs.
 
-use crate::books::plain::{plain, with_out};
+use crate::books::plain::{moved_up, plain, with_out, with_seconds};
 use crate::books::sources;
 use crate::definitions::book::{pack, Book};
 
@@ -19,10 +20,25 @@ pub fn second_and_feeder() -> Book {
     plain(&[60, 0, -40, -20], &[(0, 1, 40), (0, 2, 40), (1, 2, 25), (2, 3, 30), (1, 3, 30)])
 }
 
-/// 1,461 bytes that start with these: longer than any book.
+/// The second book in the new form: branches 0-2 and 2-3 have a second kVA above the first.
+pub fn second_two() -> Book {
+    with_seconds(second_book(25), &[(1, 60), (3, 1_000_000)])
+}
+
+/// The triangle in the new form with the last branch's second kVA one below the first: refused with 5.
+pub fn triangle_below() -> Book {
+    with_seconds(triangle(30), &[(2, 29)])
+}
+
+/// 1,461 bytes that start with these: longer than any old book.
 pub fn too_long(start: &[u8]) -> Vec<u8> {
+    filled_to(start, 1461)
+}
+
+/// Bytes that start with these and then are 0, so many in all.
+pub fn filled_to(start: &[u8], length: usize) -> Vec<u8> {
     let mut bytes = start.to_vec();
-    bytes.resize(1461, 0);
+    bytes.resize(length, 0);
     bytes
 }
 
@@ -36,8 +52,29 @@ pub fn largest() -> Book {
     book
 }
 
-/// Names and bytes of every stored input.
+/// The largest book in the new form, the second kVA above the first on every chord: 2,100 bytes.
+pub fn largest_new() -> Book {
+    let chords: Vec<(usize, u32)> = (128..256).map(|branch| (branch, 250 + branch as u32)).collect();
+    with_seconds(largest(), &chords)
+}
+
+/// Names and bytes of every stored input; a request's own come after all that stood there before.
 pub fn inputs() -> Vec<(&'static str, Vec<u8>)> {
+    old_inputs().into_iter().chain(new_inputs()).collect()
+}
+
+fn new_inputs() -> Vec<(&'static str, Vec<u8>)> {
+    vec![
+        ("triangle-new", pack(&moved_up(triangle(30)))),
+        ("second-new", pack(&moved_up(second_book(25)))),
+        ("second-two", pack(&second_two())),
+        ("largest-new", pack(&largest_new())),
+        ("long-new-1", filled_to(&pack(&largest_new()), 2101)),
+        ("triangle-below", pack(&triangle_below())),
+    ]
+}
+
+fn old_inputs() -> Vec<(&'static str, Vec<u8>)> {
     vec![
         ("triangle", pack(&triangle(30))),
         ("second", pack(&second_book(25))),

@@ -1,0 +1,4 @@
+pub mod Scan
+pub mod Moving
+pub mod MovedBook
+pub mod Examples
