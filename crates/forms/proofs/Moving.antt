@@ -20,12 +20,13 @@ use Rattle.layout.specs.declared.Form.{Form}
 use Rattle.layout.specs.declared.Head.{Head}
 use Rattle.layout.specs.Book.{branch, inForm}
 use Rattle.layout.specs.Form.{formBit, branchWidths, branchValues}
-use Rattle.layout.specs.Layout.{headWidths, busWidths, busStart, branchStart, bytesFor, busesIn, branchesIn, busAt, branchAfter, bookOf, packed, encode}
+use Rattle.layout.specs.Layout.{headWidths, busWidths, busStart, branchStart, bytesFor, busesIn, branchesIn, busAt, branchAfter, bookOf, encode}
 use Rattle.layout.specs.Inside.{HeadRead}
 use Rattle.layout.specs.Check.{checkOf, checkNumbers}
 use Rattle.layout.proofs.Given.{check-gives}
 use Rattle.layout.proofs.AcceptedWhere.{accepted-valid}
 use Rattle.layout.proofs.WellFormed.{count-of, branch-of}
+use Rattle.layout.proofs.Packed.{put-packed}
 use Rattle.layout.proofs.DecodeEncode.{encode-fields}
 use Rattle.book.proofs.RowsHoldBook.{head-in-range}
 use Rattle.forms.specs.Inside.{Small}
@@ -110,9 +111,10 @@ pub moved-bytes : (bs : List ℕ) (f : Form) (h : Head) → HeadRead bs h → ch
     → z₂ ≡ putItems busWidths z₁ busStart (busAt bs) (h .buses)
     → z₃ ≡ putItems (branchWidths f) z₂ (branchStart (h .buses)) (λ k. branchValues f (branchAfter (h .form) (h .buses) bs k)) (h .branches)
     → z₃ ≡ encode (inForm f (bookOf bs))
-unfolding packed
 moved-bytes bs f h w ok out z₀ z₁ z₂ z₃ l e₀ e₁ e₂ e₃ =
-    e₃ ∙ rw (e₂, e₁, e₀, l, w .form-is, w .buses-are, w .branches-are, w .factor-is) refl ∙ sym (encode-fields bs f (accepted-valid bs ok))
+    put-packed (branchWidths f) (h .buses ∷ h .branches ∷ h .factor ∷ formBit f ∷ 0 ∷ []) (busAt bs) (h .buses)
+    (λ k. branchValues f (branchAfter (h .form) (h .buses) bs k)) (h .branches) out z₀ z₁ z₂ z₃ l e₀ e₁ e₂ e₃
+    ∙ rw (w .form-is, w .buses-are, w .branches-are, w .factor-is) (sym (encode-fields bs f (accepted-valid bs ok)))
 
 -- ---- the ways in which a move ends
 

@@ -1,5 +1,5 @@
 -- Laws of packed fields, whatever the widths of a branch: each is read back, nothing else stands beside them, and a book's own fields give its bytes.
-use mathlib.Core.Path.{_≡_, sym, _∙_}
+use mathlib.Core.Path.{_≡_, refl, sym, _∙_}
 use mathlib.Core.List.{List}
 use Prim.Native.Nat.{ℕ, _+_, _*_, _/_, _<_, _≤_}
 use native.Mathlib.Decide.{decLt}
@@ -69,6 +69,14 @@ module _ (ws : List ℕ) (head : List ℕ) (bus : ℕ → List ℕ) (n : ℕ) (b
   pub branch-packed : (k : ℕ) → k < m → Fit ws (branch k) → item ws (packed ws head bus n branch m) (branchStart n) k ≡ branch k
   unfolding packed
   branch-packed k h f = item-put ws with-buses (branchStart n) branch m k (omega (arith, long-buses)) h f
+
+-- Zeros, then the header's fields, the buses and the branches, put one after another.
+pub put-packed : (ws head : List ℕ) (bus : ℕ → List ℕ) (n : ℕ) (branch : ℕ → List ℕ) (m : ℕ) (out z₀ z₁ z₂ z₃ : List ℕ)
+    → length out ≡ bytes ws n m → z₀ ≡ replicate (length out) 0 → z₁ ≡ puts z₀ 0 headWidths head
+    → z₂ ≡ putItems busWidths z₁ busStart bus n → z₃ ≡ putItems ws z₂ (branchStart n) branch m
+    → z₃ ≡ packed ws head bus n branch m
+unfolding packed
+put-packed ws head bus n branch m out z₀ z₁ z₂ z₃ l e₀ e₁ e₂ e₃ = e₃ ∙ rw (e₂, e₁, e₀, l) refl
 
 -- Only the fields of the n buses and the m branches matter.
 pub packed-same : (ws head : List ℕ) (bus bus′ : ℕ → List ℕ) (n : ℕ) (branch branch′ : ℕ → List ℕ) (m : ℕ)

@@ -24,7 +24,7 @@ use Rattle.layout.specs.Layout.{headWidths, busWidths, busStart, branchStart, b
 use Rattle.layout.specs.Check.{outside, balances}
 use Rattle.answer.proofs.Refusals.{leaves}
 use Rattle.layout.proofs.AcceptedWhere.{InRange, in-range, range-in, past-fault}
-use Rattle.layout.proofs.Packed.{packed-same}
+use Rattle.layout.proofs.Packed.{put-packed, packed-same}
 use Rattle.layout.proofs.DecodeEncode.{encode-as}
 use Rattle.pack.proofs.Given.{write-said}
 use Rattle.pack.specs.Write.{entry, rowAt, bookFrom, entryFault, rowFault, writeCheck, BookWritten}
@@ -146,8 +146,7 @@ module _ (form : Form) (n m factor : ℕ) (inj : List ℤ) (bra : List ℕ) wher
       → z₂ ≡ putItems busWidths z₁ busStart (λ k. busValues (entry inj k)) n
       → z₃ ≡ putItems (branchWidths form) z₂ (branchStart n) (λ k. branchValues form (rowAt form bra k)) m
       → z₃ ≡ encode b
-  unfolding packed
-  written out z₀ z₁ z₂ z₃ l e₀ e₁ e₂ e₃ = e₃ ∙ rw (e₂, e₁, e₀, l) refl ∙ sym encode-from
+  written out z₀ z₁ z₂ z₃ l e₀ e₁ e₂ e₃ = put-packed _ _ _ n _ m out z₀ z₁ z₂ z₃ l e₀ e₁ e₂ e₃ ∙ sym encode-from
 
 -- ---- the ways in which writing a book ends
 
