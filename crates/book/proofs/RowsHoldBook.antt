@@ -22,8 +22,8 @@ use Rattle.layout.specs.Check.{checkOf}
 use Rattle.layout.proofs.WellFormed.{buses-of, count-of}
 use Rattle.layout.proofs.AcceptedWhere.{InRange, accepted-valid}
 use Rattle.layout.specs.declared.Head.{Head}
-use Rattle.book.specs.declared.BusRows.{BusRows}
-use Rattle.book.specs.declared.BranchRows.{BranchRows}
+use Rattle.book.specs.declared.cases.BusRows.{BusRows}
+use Rattle.book.specs.declared.cases.BranchRows.{BranchRows}
 use Rattle.layout.specs.Inside.{HeadRead}
 use Rattle.book.specs.Inside.{GainsRead, BranchesRead, RowsRead}
 

@@ -15,9 +15,9 @@ use Rattle.layout.specs.Form.{fields}
 use Rattle.layout.specs.Book.{Book, buses, count, injection, branch}
 use Rattle.layout.specs.Layout.{branchAfter, injectionAt, tableOf}
 use Rattle.layout.specs.declared.Head.{Head}
-use Rattle.book.specs.declared.BusRows.{BusRows}
-use Rattle.book.specs.declared.BranchRows.{BranchRows}
-use Rattle.book.specs.declared.CaseRows.{CaseRows}
+use Rattle.book.specs.declared.cases.BusRows.{BusRows}
+use Rattle.book.specs.declared.cases.BranchRows.{BranchRows}
+use Rattle.book.specs.declared.cases.CaseRows.{CaseRows}
 
 -- l with the numbers of the branches f 0, f 1, .., f (n - 1) in its first places, and as it was beyond.
 abbrev pub tabled : Form → ℕ → (ℕ → Branch) → List ℕ → List ℕ

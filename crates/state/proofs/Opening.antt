@@ -16,7 +16,7 @@ use Rattle.quantity.specs.Signed.{posPart, negPart}
 use Rattle.quantity.proofs.Parts.{size-parts}
 use Rattle.layout.specs.Book.{Book, buses, count, injection, branch, noBranch, WellFormed}
 use Rattle.book.specs.Inside.{RowsRead}
-use Rattle.book.specs.declared.CaseRows.{CaseRows}
+use Rattle.book.specs.declared.cases.CaseRows.{CaseRows}
 use Rattle.verdict.specs.Case.{Posed}
 use Rattle.state.specs.Case.{caseOf}
 use Rattle.state.specs.Inside.{Plannable, Planned, Held}

@@ -11,7 +11,7 @@ use Rattle.layout.specs.Book.{WellFormed}
 use Rattle.layout.specs.Layout.{branchesIn, bookOf}
 use Rattle.layout.proofs.WellFormed.{accepted-well}
 use Rattle.book.specs.Inside.{RowsRead}
-use Rattle.book.specs.declared.CaseRows.{CaseRows}
+use Rattle.book.specs.declared.cases.CaseRows.{CaseRows}
 use Rattle.fit.specs.Inside.{Lendable, Fitted}
 use Rattle.fit.specs.declared.Lending.{Lending}
 use Rattle.quantity.specs.Inside.{kwAt}

@@ -15,7 +15,7 @@ use Rattle.quantity.specs.Signed.{posPart, negPart}
 use Rattle.search.specs.InsideLinks.{Linkable, Wiring, Linked}
 use Rattle.search.specs.declared.Wires.{Wires}
 use Rattle.search.specs.declared.Latent.{Latent}
-use Rattle.book.specs.declared.CaseRows.{CaseRows}
+use Rattle.book.specs.declared.cases.CaseRows.{CaseRows}
 use Rattle.answer.specs.declared.Outcome.the-variants.{Accepted}
 use Rattle.layout.specs.Layout.{branchesIn}
 use Rattle.layout.specs.Check.{checkOf}

@@ -1,7 +1,7 @@
 -- `rows_with` gives rows that hold an accepted book.
 use Rattle.book.proofs.RowsHoldBook.{head-in-range, rows-read}
-use Rattle.book.proofs.rows_with.Statement.{statement}
-use Rattle.book.proofs.rows_with.Tie as tie
+use Rattle.book.proofs.cases.rows_with.Statement.{statement}
+use Rattle.book.proofs.cases.rows_with.Tie as tie
 
 bus-rows-requires : tie.Need-bus-rows-requires
 bus-rows-requires c κs = head-in-range _ _ (c .before .pre .0) (c .before .pre .1) .few-buses

@@ -3,8 +3,8 @@ use borrow.Author.Needs.{needs}
 use native.Mathlib.Omega.{arith}
 use Prim.Native.Nat.{_-_}
 use Rattle.book.proofs.BranchRowsFilled.{Branching, branching-start, branching-more, branching-end, ends-fit}
-use Rattle.book.proofs.branch_rows.Statement.{statement}
-use Rattle.book.proofs.branch_rows.Tie as tie
+use Rattle.book.proofs.cases.branch_rows.Statement.{statement}
+use Rattle.book.proofs.cases.branch_rows.Tie as tie
 
 abbrev Inv-loop : tie.InvT-loop
 Inv-loop book form buses branches factor first₀ second₀ served₀ limit₀ k₀ first second served limit k =

@@ -9,8 +9,8 @@ use mir.Facts.{toZ-ofZ}
 use Rattle.quantity.specs.Signed.{posPart, negPart}
 use Rattle.layout.specs.Layout.{injectionAt}
 use Rattle.book.proofs.Filling.{Filling, fill-start, fill-more, fill-end}
-use Rattle.book.proofs.bus_rows.Statement.{statement}
-use Rattle.book.proofs.bus_rows.Tie as tie
+use Rattle.book.proofs.cases.bus_rows.Statement.{statement}
+use Rattle.book.proofs.cases.bus_rows.Tie as tie
 
 abbrev Inv-loop : tie.InvT-loop
 Inv-loop book buses gain₀ load₀ k₀ gain load k =
