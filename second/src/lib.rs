@@ -12,6 +12,7 @@ pub mod definitions {
     pub mod cuts;
     pub mod form;
     pub mod groups;
+    pub mod limits;
     pub mod list;
     pub mod maxflow;
     pub mod meters;
@@ -32,6 +33,8 @@ pub mod books {
     pub mod random;
     pub mod random_books;
     pub mod random_forms;
+    pub mod random_ratings;
+    pub mod ratings;
     pub mod sources;
     pub mod text;
 }
@@ -50,11 +53,13 @@ pub mod streams {
     pub mod gate;
     pub mod make;
     pub mod make_forms;
+    pub mod make_ratings;
     pub mod make_returns;
     pub mod make_tables;
     pub mod make_written;
     pub mod stored;
     pub mod stored_forms;
+    pub mod stored_ratings;
     pub mod stored_returns;
     pub mod under_way;
 }
@@ -64,11 +69,13 @@ pub mod judging {
     pub mod accepted;
     pub mod faults;
     pub mod faults_forms;
+    pub mod faults_ratings;
     pub mod faults_returns;
     pub mod forms;
     pub mod judge;
     pub mod moved;
     pub mod plant;
+    pub mod ratings;
     pub mod run;
     pub mod selftest;
     pub mod tally;

@@ -2,8 +2,10 @@
 
 use second::books::random::Random;
 use second::books::random_books::{counts, served, strained};
+use second::books::random_ratings::heavy;
 use second::definitions::book::{pack, unpack};
 use second::definitions::form::Form;
+use second::definitions::limits::Limits;
 use second::definitions::network::{Network, Verdict};
 use second::definitions::reroutes::{confined, exactly, Exactly};
 use second::definitions::tables::{numbers, write};
@@ -16,7 +18,11 @@ fn both_methods_agree_on_small_books() {
     for round in 0..6000 {
         let buses = 1 + random.below(if round % 10 == 0 { 12 } else { 7 });
         let count = random.below(2 * buses + 3);
-        let book = if round % 3 == 0 { strained(&mut random, buses, count) } else { served(&mut random, buses, count) };
+        let book = match round % 4 {
+            0 => strained(&mut random, buses, count),
+            1 => heavy(&mut random, buses, count).0,
+            _ => served(&mut random, buses, count),
+        };
         let network = Network::of(&book);
         let excess = groups::base_excess(&network);
         assert_eq!(excess, cuts::base_excess(&network), "{book:?}");
@@ -69,22 +75,25 @@ fn books_come_back_from_their_bytes() {
     assert!((800..1200).contains(&new), "{new}");
 }
 
-/// Every whole flow of a network without `branch` within the limits that fits, one by one.
-fn all_flows(network: &Network, branch: usize) -> Vec<Vec<i64>> {
+/// Every whole flow of a network without `branch` that fits by these limits, one by one.
+fn all_flows(network: &Network, limits: Limits, branch: usize) -> Vec<Vec<i64>> {
     let without = network.without(branch);
     let mut flows: Vec<Vec<i64>> = vec![Vec::new()];
     for line in &without.lines {
-        let most = if line.served { line.limit } else { 0 };
+        let most = if line.served { line.limit(limits) } else { 0 };
         flows = flows.into_iter().flat_map(|flow| (-most..=most).map(move |kw| [&flow[..], &[kw]].concat())).collect();
     }
-    flows.retain(|flow| without.fits(flow));
+    flows.retain(|flow| without.fits_within(limits, flow));
     flows
 }
 
-/// A tiny book with limits of at most 2 and a random flow that fits it.
+/// A tiny book with limits of at most 2, the second at times above the normal one, and a random flow that fits it.
 fn tiny(random: &mut Random, buses: usize, count: usize) -> (Network, Vec<i64>) {
     let mut book = served(random, buses, count);
-    book.branches.iter_mut().for_each(|branch| branch.kva = branch.kva.min(2));
+    for branch in &mut book.branches {
+        branch.kva = branch.kva.min(2);
+        branch.second_kva = random.between(branch.kva as i64, 2) as u32;
+    }
     book.factor = 1000;
     book.injections = vec![0; buses];
     let mut flow = Vec::new();
@@ -101,7 +110,7 @@ fn tiny(random: &mut Random, buses: usize, count: usize) -> (Network, Vec<i64>) 
 #[test]
 fn reroutes_are_decided_as_all_whole_flows_decide_them() {
     let mut random = Random(3);
-    let (mut yes, mut no, mut only_confined) = (0, 0, 0);
+    let (mut yes, mut no, mut only_confined, mut second_only) = (0, 0, 0, 0);
     for _ in 0..1500 {
         let (buses, count) = (2 + random.below(4), 1 + random.below(6));
         let (network, flow) = tiny(&mut random, buses, count);
@@ -110,14 +119,18 @@ fn reroutes_are_decided_as_all_whole_flows_decide_them() {
         if !network.lines[branch].served {
             continue;
         }
-        let flows = all_flows(&network, branch);
+        let [flows, normal] = [Limits::Second, Limits::Normal].map(|limits| all_flows(&network, limits, branch));
         let differs = |other: &Vec<i64>| (0..count).filter(|&k| k != branch && other[k] != flow[k]).collect::<Vec<_>>();
         for mask in 0..1usize << count {
             let named: Vec<usize> = (0..count).filter(|k| mask >> k & 1 == 1).collect();
             let within = |other: &Vec<i64>| differs(other).iter().all(|k| named.contains(k));
-            let found = confined(&network, &flow, branch, &named);
-            assert_eq!(found.is_some(), flows.iter().any(within));
-            assert!(found.as_ref().is_none_or(|found| flows.contains(found) && within(found)));
+            let [found, kept] = [(Limits::Second, &flows), (Limits::Normal, &normal)].map(|(limits, flows)| {
+                let found = confined(&network, limits, &flow, branch, &named);
+                assert_eq!(found.is_some(), flows.iter().any(within));
+                assert!(found.as_ref().is_none_or(|found| flows.contains(found) && within(found)));
+                found
+            });
+            second_only += (found.is_some() && kept.is_none()) as usize;
             let due = flows.iter().any(|other| differs(other) == named);
             match exactly(&network, &flow, branch, &named) {
                 Exactly::Yes(witness) => assert!(due && flows.contains(&witness) && differs(&witness) == named),
@@ -128,5 +141,5 @@ fn reroutes_are_decided_as_all_whole_flows_decide_them() {
             only_confined += (!due && found.is_some()) as usize;
         }
     }
-    assert!(yes > 1000 && no > 1000 && only_confined > 100, "{yes} {no} {only_confined}");
+    assert!(yes > 1000 && no > 1000 && only_confined > 100 && second_only > 100, "{yes} {no} {only_confined} {second_only}");
 }

@@ -35,6 +35,11 @@ fn the_stored_stream_begins_as_it_did_before_the_new_form_came() {
     begins_as(18_172, 0x9c00_eb85_be66_dc26);
 }
 
+#[test]
+fn the_stored_stream_begins_as_it_did_before_the_second_limits_counted() {
+    begins_as(28_086, 0xa05e_b632_564b_fb0e);
+}
+
 /// The stream of then, so many bytes, ended in a bad command of 3 bytes, which stops a stream and so is still the last.
 fn begins_as(length: usize, print: u64) {
     let stream = stored::stream();

@@ -1,14 +1,13 @@
 //! The two forms of a book (document 02, W3): bytes worked out by hand, another reading of the bits, moves and round trips.
 
-use second::books::named::{largest_new, second_book, second_two, triangle};
+use second::books::named::{largest_new, triangle};
 use second::books::plain::{moved_up, plain, with_out, with_seconds};
 use second::books::random::Random;
 use second::books::random_books::{counts, strained};
 use second::definitions::book::{pack, unpack, Book};
 use second::definitions::form::Form;
 use second::definitions::moves::moved;
-use second::definitions::network::Network;
-use second::definitions::{bits, list, screen, tables};
+use second::definitions::{bits, list, tables};
 use second::streams::stored::damaged_books;
 use second::streams::stored_forms::damaged_new_books;
 
@@ -136,16 +135,6 @@ fn random_new_books_differ_in_every_way() {
     for number in [equal, last_alone, one_alone, one_more, largest] {
         assert!(number > 80, "{equal} {last_alone} {one_alone} {one_more} {largest}");
     }
-}
-
-#[test]
-fn the_second_rating_plays_no_part_in_limits() {
-    let lines = |book: &Book| list::list(&pack(book));
-    assert_eq!(lines(&second_two()), lines(&second_book(25)));
-    assert_eq!(lines(&with_seconds(second_book(15), &[(2, 25)])), "refused 12 5 2 0 1\n");
-    let all = with_seconds(triangle(19), &[(0, 90), (1, 90), (2, 90)]);
-    assert_eq!(lines(&all), lines(&triangle(19)));
-    assert_eq!(screen::verdicts(&Network::of(&all)), screen::verdicts(&Network::of(&triangle(19))));
 }
 
 #[test]

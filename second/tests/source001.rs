@@ -4,6 +4,7 @@ use second::books::plain::with_out;
 use second::books::random::Random;
 use second::books::sources::*;
 use second::definitions::book::{pack, Book};
+use second::definitions::limits::Limits;
 use second::definitions::network::{Excess, Network, Verdict};
 use second::definitions::outage::{allowed, judge, own_result, shortlist};
 use second::definitions::record;
@@ -26,7 +27,7 @@ fn short_mw(mw: i64, buses_from_1: &[usize]) -> Verdict {
 /// R(S) - P(S) without a branch, in MW: the document's transfer margin of one cut-set.
 fn margin(book: &Book, branch: usize, buses_from_1: &[usize]) -> i64 {
     let group = buses_from_1.iter().fold(0, |group, bus| group | 1 << (bus - 1));
-    -groups::excess_of(&Network::of(book), group, Some(branch)) / 1000
+    -groups::excess_of(&Network::of(book), Limits::Normal, group, Some(branch)) / 1000
 }
 
 #[test]

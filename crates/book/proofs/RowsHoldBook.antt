@@ -13,7 +13,7 @@ use Rattle.rows.specs.Row.{upTo, headed}
 use Rattle.rows.proofs.Row.{length-upTo, getD-upTo, headed-at, headed-rest}
 use Rattle.quantity.specs.Signed.{posPart, negPart}
 use Rattle.quantity.specs.declared.Kw.{Kw}
-use Rattle.quantity.specs.Inside.{inKw}
+use Rattle.quantity.specs.Inside.{inKw, kwAt}
 use Rattle.quantity.specs.Rating.{limitOf}
 use Rattle.layout.specs.declared.Branch.{Branch}
 use Rattle.layout.specs.Book.{noBranch, branch, injection}
@@ -60,6 +60,13 @@ module _ (bs : List ℕ) (h : Head) (w : HeadRead bs h) where
   unfolding bookOf
   factor-read = w .factor-is
 
+  kw-row : (g : Branch → ℕ) (k : ℕ) → 0 ≡ g noBranch
+      → kwAt (headed (h .branches) (λ i. inKw (limitOf (g (branchAfter (h .form) (h .buses) bs i)) (h .factor))) (replicate 256 (inKw 0))) k
+      ≡ limitOf (g (branch (bookOf bs) k)) (bookOf bs .factor)
+  kw-row g k e =
+      rw (← factor-read)
+      (ap (λ (x : Kw). x .0) (branch-row (λ x. inKw (limitOf (g x) (h .factor))) (inKw 0) k (ap inKw (rw (← e) (omega arith)))))
+
   pub rows-read : (u : BusRows) (v : BranchRows) → GainsRead bs (h .buses) u → BranchesRead bs h v
       → RowsRead (bookOf bs) (record {
         buses = h .buses;
@@ -68,6 +75,7 @@ module _ (bs : List ℕ) (h : Head) (w : HeadRead bs h) where
         second = v .second;
         served = v .served;
         limit = v .limit;
+        loss = v .loss;
         gain = u .gain;
         load = u .load;
       })
@@ -77,7 +85,8 @@ module _ (bs : List ℕ) (h : Head) (w : HeadRead bs h) where
     first-is = λ k. rw (q .first-row) (branch-row (λ x. x .first) 0 k refl);
     second-is = λ k. rw (q .second-row) (branch-row (λ x. x .second) 0 k refl);
     served-is = λ k. rw (q .served-row) (branch-row (λ x. eqb (x .status) 1) false k refl);
-    limit-is = λ k. rw (q .limit-row, ← factor-read) (ap (λ (x : Kw). x .0) (branch-row (λ x. inKw (limitOf (x .kva .0) (h .factor))) (inKw 0) k (ap inKw (omega arith))));
+    limit-is = λ k. rw (q .limit-row) (kw-row (λ x. x .kva .0) k refl);
+    loss-is = λ k. rw (q .loss-row) (kw-row (λ x. x .kva2 .0) k refl);
     gain-is = λ k. rw (p .gain-row) (bus-row posPart k refl);
     load-is = λ k. rw (p .load-row) (bus-row negPart k refl);
   }

@@ -12,7 +12,8 @@ use layout::Branch;
 use layout::Head;
 use quantity::Kw;
 
-// The numbers of a case, a row for each: a branch in service may have limit 0, so `served` stands apart.
+// The numbers of a case, a row for each: what the base flow keeps to, and what a loss is judged by. A branch in service may have limit 0, so
+// `served` stands apart.
 pub struct CaseRows {
     pub buses: usize,
     pub branches: usize,
@@ -20,6 +21,7 @@ pub struct CaseRows {
     pub second: [u8; 256],
     pub served: [bool; 256],
     pub limit: [Kw; 256],
+    pub loss: [Kw; 256],
     pub gain: [u32; 128],
     pub load: [u32; 128],
 }
@@ -49,9 +51,10 @@ struct BranchRows {
     pub second: [u8; 256],
     pub served: [bool; 256],
     pub limit: [Kw; 256],
+    pub loss: [Kw; 256],
 }
 
-// What a branch can carry. Its rating leaves its kVA here alone.
+// What a branch can carry. Its ratings leave their kVA here alone.
 fn limit_of(x: Branch, factor: u32) -> Kw
     requires { ⌜ factor ≤ 1000 ⌝ }
     ensures { λ r. ⌜ r .0 ≡ limitOf (x .kva .0) factor ⌝ }
@@ -59,7 +62,15 @@ fn limit_of(x: Branch, factor: u32) -> Kw
     quantity::limit(x.kva, factor)
 }
 
-// The ends, the service and the limit in kW of each branch.
+// What it can carry for a short time, after the loss of another.
+fn loss_of(x: Branch, factor: u32) -> Kw
+    requires { ⌜ factor ≤ 1000 ⌝ }
+    ensures { λ r. ⌜ r .0 ≡ limitOf (x .kva2 .0) factor ⌝ }
+{
+    quantity::limit(x.kva2, factor)
+}
+
+// The ends, the service and the limits in kW of each branch.
 fn branch_rows(book: &[u8], h: Head) -> BranchRows
     requires { ⌜ (h .buses ≤ 128) × (h .branches ≤ 256) × (h .factor ≤ 1000) ⌝ }
     ensures { λ r. ⌜ BranchesRead (now (book .entry)) h r ⌝ }
@@ -72,18 +83,21 @@ fn branch_rows(book: &[u8], h: Head) -> BranchRows
     let mut second = [0u8; 256];
     let mut served = [false; 256];
     let mut limit = [Kw(0); 256];
+    let mut loss = [Kw(0); 256];
     for k in 0..branches {
         let x = layout::branch_at(book, form, buses, k);
         first[k] = x.first as u8;
         second[k] = x.second as u8;
         served[k] = x.status == 1;
         limit[k] = limit_of(x, factor);
+        loss[k] = loss_of(x, factor);
     }
     BranchRows {
         first,
         second,
         served,
         limit,
+        loss,
     }
 }
 
@@ -99,6 +113,7 @@ pub fn rows_with(book: &[u8], h: Head) -> CaseRows
     let second = branch.second;
     let served = branch.served;
     let limit = branch.limit;
+    let loss = branch.loss;
     let gain = bus.gain;
     let load = bus.load;
     CaseRows {
@@ -108,6 +123,7 @@ pub fn rows_with(book: &[u8], h: Head) -> CaseRows
         second,
         served,
         limit,
+        loss,
         gain,
         load,
     }

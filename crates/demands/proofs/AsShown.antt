@@ -1,35 +1,39 @@
--- In a run a call on a branch in service does what the table shows: accepted exactly if the branch is shown as carrying, and refused with 12
--- exactly if it is shown as short, with the shortage and the group shown.
+-- In a run, what a call on a branch in service answers beside what the table shows of it. Accepted: it was shown as carrying. Shown as short: refused
+-- with 12, by no less. Where both figures are equal on every branch: accepted exactly if shown as carrying, and refused with the shortage and the
+-- group shown exactly if shown as short.
 use mathlib.Core.Path.{_≡_, sym, _∙_}
 use mathlib.Core.Bool.{true, true≢false}
 use mathlib.Core.List.{List}
 use mathlib.Core.Logic.{_↔_}
-use Prim.Native.Nat.{ℕ, _<_}
+use Prim.Native.Nat.{ℕ, _≤_, _<_}
 use native.Mathlib.Omega.{arith}
 use lib.IntN.{ℤ}
 use lib.ListN.{length, take, drop, length-take, length-drop}
 use lib.Seq.{getD-take, getD-drop}
 use Rattle.rows.specs.Bit.{has}
-use Rattle.answer.specs.Answer.{accepted, overloaded}
+use Rattle.answer.specs.Answer.{numberOf, shortageOf, accepted, overloaded}
 use Rattle.answer.specs.declared.Answer.{Answer}
 use Rattle.answer.proofs.Said.{said-overloaded}
 use Rattle.bits.specs.Field.{Bytes}
-use Rattle.layout.specs.Layout.{branchesIn}
+use Rattle.layout.specs.Layout.{branchesIn, bookOf}
 use Rattle.verdict.specs.Case.{Case, Posed, out, on}
 use Rattle.verdict.specs.Excess.{NoExcess}
 use Rattle.verdict.specs.Record.{recordAt, verdictIn, shortageIn, groupIn, Told, is-out, carries, short, TrueRecord}
 use Rattle.verdict.specs.Update.{Lent}
 use Rattle.verdict.proofs.Fitting.{fits-none}
 use Rattle.verdict.proofs.Loss.{Level, short-overload, carries-spare, never-overload}
+use Rattle.verdict.proofs.Normal.{spare-carries, short-at-most}
+use Rattle.verdict.proofs.Shown.{carries-exactly, short-shows}
+use Rattle.forms.proofs.MovedBook.{Equal}
 use Rattle.state.specs.Case.{caseIn}
 use Rattle.state.specs.Call.{OverloadSaid, refuses, unfit, overloads, accepts}
 use Rattle.state.proofs.TrueRecords.{group-bytes}
 use Rattle.state.proofs.Status.{branches-of, level-of}
-use Rattle.state.proofs.OneOverload.{overloaded-same, fits-not-over}
-use Rattle.outage.specs.Promise.{TakeEnds}
+use Rattle.state.proofs.OneOverload.{overloaded-same}
+use Rattle.outage.specs.Promise.{Confined, TakeEnds}
 use Rattle.demands.specs.Run.{Run}
-use Rattle.demands.proofs.Ends.{number-of, never-accepted, is-accepted}
-use Rattle.demands.proofs.Demand3.{run-true, run-posed, run-fits, call-checked, posed-out}
+use Rattle.demands.proofs.Ends.{number-of, never-accepted, is-accepted, take-done}
+use Rattle.demands.proofs.Demand3.{run-true, run-posed, run-fits, call-confined, equal-reroute, call-checked, posed-out}
 
 -- The group bytes of a record.
 abbrev shownGroup : List ℕ → List ℕ
@@ -67,36 +71,73 @@ module _ {now : Lent} (run : Run now) {after : Lent} {b : ℕ} {r : Answer} (e :
   abbrev rec : List ℕ
   rec = recordAt (now .table) b
 
-  says : Without (caseIn (now .book)) b rec
-  says =
+  shown : TrueRecord (caseIn (now .book)) (on (now .flow)) b rec
+  shown = run-true run .each b (omega (arith, branches-of (now .book)))
+
+  -- Accepted: it may be taken out for good, so it carries for a short time.
+  pub accepted-carried : r ≡ accepted → verdictIn rec ≡ 1
+  accepted-carried a =
       let C = caseIn (now .book) in
-      without C (on (now .flow)) b rec (run-posed run) (fits-none C (on (now .flow)) (run-posed run) (run-fits run)) (level-of (now .book)) in-service
-      (run-true run .each b (omega (arith, branches-of (now .book))))
+      carries-exactly C (run-posed run) (on (now .flow)) b rec shown in-service .1
+      (spare-carries C b (run-posed run)
+      (fits-none (out C b) (on (after .flow)) (posed-out run e there in-service) (take-done e a .took .updated .fits)))
 
-  -- Which of the two it is.
-  data Which : Type 0 where
-    was-carrying : verdictIn rec ≡ 1 → r ≡ accepted → Which
-    was-short : verdictIn rec ≡ 2 → r ≡ overloaded (shortageIn rec) (shownGroup rec) → Which
-
-  which : Which
-  which = go says e
+  -- Shown as short by v: refused with 12, and by v or more.
+  pub short-refused : verdictIn rec ≡ 2 → (numberOf (r .outcome) ≡ 12) × (shortageIn rec ≤ shortageOf (r .outcome))
+  short-refused v = go e
     where
-      go : Without (caseIn (now .book)) b rec → TakeEnds b now after r → Which
-      go w (refuses n a k) = absurd (n (call-checked run e there in-service))
-      go w (unfit c n a k) = absurd (n (run-fits run))
-      go (spared v h) (overloads c f o k) = absurd (never-overload (out (caseIn (now .book)) b) (o .shortage) (has (o .group)) h (o .overload))
-      go (spared v h) (accepts c f a o) = was-carrying v (is-accepted a)
-      go (missed v x) (overloads c f o k) = was-short v (overloaded-same (out (caseIn (now .book)) b) r _ o x)
-      go (missed v x) (accepts c f a o) = absurd (fits-not-over (out (caseIn (now .book)) b) (on (after .flow)) _ (posed-out run e there in-service) (o .updated .fits) x)
+      go : TakeEnds b now after r → (numberOf (r .outcome) ≡ 12) × (shortageIn rec ≤ shortageOf (r .outcome))
+      go (refuses n a k) = absurd (n (call-checked run e there in-service))
+      go (unfit c n a k) = absurd (n (run-fits run))
+      go (overloads c f o k) =
+          let C = caseIn (now .book) in
+          let s = short-shows C (run-posed run) (on (now .flow)) b rec shown v in (
+            o .answer .number-is,
+            omega (
+              arith,
+              o .answer .shortage-is,
+              short-at-most C b (shortageIn rec) (o .shortage) (groupIn rec) (has (o .group)) (run-posed run) s
+                  (o .overload),
+            ),
+          )
+      go (accepts c f a o) = absurd (omega (arith, v, accepted-carried (is-accepted a)))
 
-  pub accepted-as-shown : (r ≡ accepted) ↔ (verdictIn rec ≡ 1)
-  accepted-as-shown = elim which [
-    | was-carrying v a ↦ (λ q. v, λ q. a)
-    | was-short v o ↦ (λ q. absurd (never-accepted (number-of o) (λ z. omega arith) q), λ q. absurd (omega arith))
-  ]
+  -- Where both figures are equal on every branch, the word shown is the answer.
+  module _ (equal : Equal (bookOf (now .book))) where
+    says : Without (caseIn (now .book)) b rec
+    says =
+        let C = caseIn (now .book) in
+        without C (on (now .flow)) b rec (run-posed run) (fits-none C (on (now .flow)) (run-posed run) (run-fits run))
+        (level-of (bookOf (now .book)) equal) in-service shown
 
-  pub refused-as-shown : (r ≡ overloaded (shortageIn rec) (take 16 (drop 4 rec))) ↔ (verdictIn rec ≡ 2)
-  refused-as-shown = elim which [
-    | was-carrying v a ↦ (λ q. absurd (never-accepted (number-of q) (λ z. omega arith) a), λ q. absurd (omega arith))
-    | was-short v o ↦ (λ q. v, λ q. o)
-  ]
+    -- Which of the two it is.
+    data Which : Type 0 where
+      was-carrying : verdictIn rec ≡ 1 → r ≡ accepted → Which
+      was-short : verdictIn rec ≡ 2 → r ≡ overloaded (shortageIn rec) (shownGroup rec) → Which
+
+    which : Which
+    which = go says e
+      where
+        go : Without (caseIn (now .book)) b rec → TakeEnds b now after r → Which
+        go w (refuses n a k) = absurd (n (call-checked run e there in-service))
+        go w (unfit c n a k) = absurd (n (run-fits run))
+        go (spared v h) (overloads c f o k) = absurd (never-overload (out (caseIn (now .book)) b) (o .shortage) (has (o .group)) h (o .overload))
+        go (spared v h) (accepts c f a o) = was-carrying v (is-accepted a)
+        go (missed v x) (overloads c f o k) = was-short v (overloaded-same (out (caseIn (now .book)) b) r _ o x)
+        go (missed v x) (accepts c f a o) = absurd (omega (arith, v, accepted-carried (is-accepted a)))
+
+    pub accepted-as-shown : (r ≡ accepted) ↔ (verdictIn rec ≡ 1)
+    accepted-as-shown = elim which [
+      | was-carrying v a ↦ (λ q. v, λ q. a)
+      | was-short v o ↦ (λ q. absurd (never-accepted (number-of o) (λ z. omega arith) q), λ q. absurd (omega arith))
+    ]
+
+    pub refused-as-shown : (r ≡ overloaded (shortageIn rec) (take 16 (drop 4 rec))) ↔ (verdictIn rec ≡ 2)
+    refused-as-shown = elim which [
+      | was-carrying v a ↦ (λ q. absurd (never-accepted (number-of q) (λ z. omega arith) a), λ q. absurd (omega arith))
+      | was-short v o ↦ (λ q. v, λ q. o)
+    ]
+
+    -- An accepted call changed flow only on its branch and on branches that its recorded reroute names.
+    pub equal-confined : r ≡ accepted → Confined (caseIn (now .book)) (on (now .flow)) rec b (on (after .flow))
+    equal-confined a = let h = equal-reroute run e equal there (accepted-carried a) in call-confined run e a (h .0) (h .1 .0) (h .1 .1)

@@ -14,7 +14,7 @@ use Rattle.answer.specs.declared.Outcome.the-variants.{Accepted}
 use Rattle.answer.specs.declared.Answer.{Answer}
 use Rattle.answer.proofs.Said.{said-same}
 use Rattle.bits.specs.Field.{setBit}
-use Rattle.layout.specs.Layout.{branchesIn, statusBit}
+use Rattle.layout.specs.Layout.{branchesIn, statusBit, bookOf}
 use Rattle.layout.specs.Check.{checkOf}
 use Rattle.verdict.specs.Case.{Case, Posed, out, on, leaving, arriving, Fits}
 use Rattle.verdict.specs.Record.{recordAt, verdictIn, Told, is-out, carries, short, Rerouted, TrueTable}
@@ -23,6 +23,7 @@ use Rattle.verdict.proofs.Fitting.{posed-status}
 use Rattle.verdict.proofs.Loss.{Level}
 use Rattle.verdict.proofs.Keep.{stable}
 use Rattle.verdict.proofs.VerdictByCase.{tables-agree}
+use Rattle.forms.proofs.MovedBook.{Equal}
 use Rattle.state.specs.Case.{caseIn}
 use Rattle.state.specs.Call as call
 use Rattle.state.specs.Call.{OverloadSaid}
@@ -131,12 +132,20 @@ module _ {now : Lent} (run : Run now) where
         → recordAt (after .table) k ≡ recordAt (now .table) k
     call-rewrites a = take-done e a .took .updated .kept
 
-    -- Where the branch was shown as carrying, flow changed only on it and on branches that its recorded reroute names.
-    pub call-confined : r ≡ accepted → verdictIn (recordAt (now .table) b) ≡ 1 → Confined C (on (now .flow)) (recordAt (now .table) b) b (on (after .flow))
-    call-confined a v =
-        let d = take-done e a in
-        let m = carried-by C (on (now .flow)) b (recordAt (now .table) b) (run-true .each b (omega (arith, branches-of (now .book), d .passes .there)) .told) v in
-        d .took .confined (m .flow) (fits-level C b (m .flow) (level-of (now .book)) (m .fits)) (within-reroute C (on (now .flow)) b (recordAt (now .table) b) m)
+    -- Flow changed only on the branch and on branches that its recorded reroute names, whenever some flow so confined fits the changed book within
+    -- the normal limits ..
+    pub call-confined : r ≡ accepted → (h : ℕ → ℤ) → Fits (out C b) (C .limit) h → Confined C (on (now .flow)) (recordAt (now .table) b) b h
+        → Confined C (on (now .flow)) (recordAt (now .table) b) b (on (after .flow))
+    call-confined a = take-done e a .took .confined
+
+    -- .. and where both figures are equal on every branch, one always does of a branch that is shown as carrying.
+    pub equal-reroute : Equal (bookOf (now .book)) → b < branchesIn (now .book) → verdictIn (recordAt (now .table) b) ≡ 1
+        → (h : ℕ → ℤ) × (Fits (out C b) (C .limit) h × Confined C (on (now .flow)) (recordAt (now .table) b) b h)
+    equal-reroute q there v =
+        let m = carried-by C (on (now .flow)) b (recordAt (now .table) b) (run-true .each b (omega (arith, branches-of (now .book))) .told) v in (
+          m .flow,
+          (fits-level C b (m .flow) (level-of (bookOf (now .book)) q) (m .fits), within-reroute C (on (now .flow)) b (recordAt (now .table) b) m),
+        )
 
     -- ---- A call on a branch in service answers as the fresh screen of the book without that branch, with the same shortage and group.
     module _ (there : b < branchesIn (now .book)) (in-service : C .served b ≡ true) where

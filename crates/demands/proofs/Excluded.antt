@@ -4,6 +4,7 @@ use mathlib.Core.Bool.{false, true≢false}
 use mathlib.Core.List.{List}
 use Prim.Native.Nat.{ℕ, _<_}
 use native.Mathlib.Omega.{arith}
+use lib.IntN.{ℤ}
 use lib.ListN.{length}
 use Rattle.answer.specs.Answer.{noGroup, Said, accepted}
 use Rattle.answer.specs.declared.Outcome.the-variants.{Accepted}
@@ -19,7 +20,7 @@ use Rattle.verdict.proofs.Fitting.{served-self, posed-status}
 use Rattle.verdict.proofs.Shown as told
 use Rattle.state.specs.Case.{caseIn}
 use Rattle.state.proofs.Status.{branches-of}
-use Rattle.outage.specs.Promise.{Touched, changed, takeCheck, TakeEnds}
+use Rattle.outage.specs.Promise.{Touched, changed, Confined, takeCheck, TakeEnds}
 use Rattle.demands.specs.Run.{Run}
 use Rattle.demands.proofs.Ends.{take-done}
 use Rattle.demands.proofs.Demand1.{call-unfit}
@@ -65,10 +66,11 @@ module _ {before after : Lent} {b : ℕ} {r : Answer} (e : TakeEnds b before aft
   pub one-bit-cleared : r ≡ accepted → OneBit (before .book) (after .book) (statusBit (before .book) b) 0
   one-bit-cleared a = let d = take-done e a in status-set (before .book) (after .book) b 0 (d .passes .passes .book) (d .passes .there) (omega arith) (d .took .book-is) .one-bit
 
-  -- One that drops the flow and screens afresh, so that flow changed outside the recorded reroute.
-  pub flow-dropped : Run before → r ≡ accepted → verdictIn (recordAt (before .table) b) ≡ 1
+  -- One that drops the flow and screens afresh, so that flow changed outside the recorded reroute, though some flow within it fits.
+  pub flow-dropped : Run before → r ≡ accepted → (h : ℕ → ℤ) → Fits (out C b) (C .limit) h
+      → Confined C (on (before .flow)) (recordAt (before .table) b) b h
       → (j : ℕ) → j < C .branches → (j ≡ b → ⊥) → names (recordAt (before .table) b) j ≡ false → (on (after .flow) j ≡ on (before .flow) j → ⊥) → ⊥
-  flow-dropped run a v j u n q d = d (call-confined run e a v j u n q)
+  flow-dropped run a h w c j u n q d = d (call-confined run e a h w c j u n q)
 
   -- One that tests 11 after 12: a lent flow that doesn't fit is refused with 11, whatever the changed book's excess.
   pub eleven-first : takeCheck (before .book) (length (before .flow)) (length (before .table)) b ≡ Accepted → (Fits C (C .limit) (on (before .flow)) → ⊥) → Said r 11 0 noGroup

@@ -14,4 +14,5 @@ pub mod Excluded
 pub mod ExcludedReturns
 pub mod RoundTrips
 pub mod Moves
+pub mod MovedCalls
 pub mod KeepsForm

@@ -4,7 +4,7 @@ use mathlib.Core.Bool.{true, false, true≢false}
 use mathlib.Core.List.{List, [], _∷_}
 use Prim.Native.Nat.{ℕ, zero, suc, _≤_, _<_}
 use native.Mathlib.Omega.{arith}
-use lib.IntN.{ℤ, pos, natAbs, _-ℤ_}
+use lib.IntN.{ℤ, pos}
 use lib.ListN.{length, take}
 use lib.Seq.{getD-take}
 use Rattle.rows.specs.Row.{nth, every}
@@ -21,7 +21,7 @@ use Rattle.layout.specs.Layout.{encode}
 use Rattle.layout.proofs.AcceptedWhere.{valid-accepted}
 use Rattle.layout.proofs.DecodeEncode.{count-encode, valid-encode, book-encode}
 use Rattle.verdict.specs.Case as verdict
-use Rattle.verdict.specs.Case.{on, leaving, arriving, Fits}
+use Rattle.verdict.specs.Case.{on, Fits}
 use Rattle.verdict.specs.Record.{recordAt, verdictIn, names}
 use Rattle.verdict.specs.Update.{Lent}
 use Rattle.record.specs.Inside.{recordBytes}
@@ -37,7 +37,7 @@ use Rattle.verdict.proofs.Shown.{out-exactly}
 use Rattle.demands.proofs.Demand3.{run-true, run-posed}
 use Rattle.examples.specs.Row.{out, carries, short, sightBytes, Shows, Takes}
 use Rattle.examples.specs.Table.{minus, joins, triangle, second, markedRows}
-use Rattle.examples.proofs.Tests.{wellTest, well-sound}
+use Rattle.examples.proofs.Tests.{wellTest, well-sound, fitsTest, fits-sound}
 use Rattle.examples.proofs.Marked.{row-in, marked-examples}
 
 abbrev T : Book
@@ -131,10 +131,10 @@ Abreast = record {
   branches = joins 0 1 10 1 ∷ joins 0 1 10 1 ∷ joins 0 1 10 1 ∷ [];
 }
 
-abbrev by-first : List ℤ
+abbrev pub by-first : List ℤ
 by-first = pos 10 ∷ pos 0 ∷ pos 0 ∷ []
 
-abbrev by-second : List ℤ
+abbrev pub by-second : List ℤ
 by-second = pos 0 ∷ pos 10 ∷ pos 0 ∷ []
 
 abbrev by-third : List ℤ
@@ -149,25 +149,8 @@ unfolding wellTest _&_ every over branchFault
 well-Abreast = refl
 
 second-fits : Fits (verdict.out (caseOf Abreast) 0) (caseOf Abreast .limit) (on by-second)
-unfolding caseOf sum
-second-fits = record { still = off; within = kept; bus = even }
-  where
-    off : (k : ℕ) → k < 3 → verdict.out (caseOf Abreast) 0 .served k ≡ false → on by-second k ≡ pos 0
-    off zero u s = refl
-    off (suc zero) u s = absurd (true≢false s)
-    off (suc (suc zero)) u s = refl
-    off (suc (suc (suc k))) u s = absurd (omega arith)
-
-    kept : (k : ℕ) → k < 3 → verdict.out (caseOf Abreast) 0 .served k ≡ true → natAbs (on by-second k) ≤ caseOf Abreast .limit k
-    kept zero u s = omega arith
-    kept (suc zero) u s = omega arith
-    kept (suc (suc zero)) u s = omega arith
-    kept (suc (suc (suc k))) u s = absurd (omega arith)
-
-    even : (i : ℕ) → i < 2 → leaving (verdict.out (caseOf Abreast) 0) (on by-second) i -ℤ arriving (verdict.out (caseOf Abreast) 0) (on by-second) i ≡ caseOf Abreast .injection i
-    even zero u = refl
-    even (suc zero) u = refl
-    even (suc (suc i)) u = absurd (omega arith)
+unfolding caseOf sum fitsTest every _&_
+second-fits = fits-sound _ _ _ refl
 
 second-confined : (rec : List ℕ) → names rec 1 ≡ true → Confined (caseOf Abreast) (on by-first) rec 0 (on by-second)
 unfolding caseOf

@@ -1,3 +1,4 @@
 pub mod Tests
 pub mod Marked
 pub mod Excluded
+pub mod Elsewhere

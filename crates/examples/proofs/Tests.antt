@@ -6,16 +6,16 @@ use Prim.Native.Nat.{ℕ, zero, suc, _+_, _-_, _≤_, _<_}
 use native.Mathlib.Omega.{arith}
 use borrow.Author.Tests.{leb-true, ltb-true, eqb-true, not-true, le-leb}
 use lib.Dec.{leb, ltb, eqb}
-use lib.IntN.{ℤ}
+use lib.IntN.{ℤ, pos, natAbs, _-ℤ_}
 use lib.ListN.{length, take, length-append, length-take, List·getD-append}
 use lib.Seq.{getD-take, ext-getD}
 use Rattle.rows.specs.Row.{nth, every}
 use Rattle.rows.specs.Bit.{has}
-use Rattle.rows.specs.Sum.{any}
+use Rattle.rows.specs.Sum.{any, pick}
 use Rattle.answer.specs.Answer.{noGroup}
 use Rattle.rows.proofs.Row.{every-at}
 use Rattle.quantity.specs.Signed.{posPart, negPart}
-use Rattle.quantity.proofs.Parts.{by-parts}
+use Rattle.quantity.proofs.Parts.{by-parts, size-parts}
 use Rattle.bits.specs.Field.{Bytes}
 use Rattle.bits.proofs.ReadAsPut.{length-setBit, bytes-setBit, bytes-zeros}
 use Rattle.grid.proofs.Without.{ends-without}
@@ -31,7 +31,7 @@ use Rattle.layout.specs.Check.{outside, balances}
 use Rattle.layout.proofs.Faults.{sound-branch}
 use Rattle.layout.proofs.AcceptedWhere.{in-range}
 use Rattle.layout.proofs.WellFormed.{balance-sum}
-use Rattle.verdict.specs.Case.{Case, Posed}
+use Rattle.verdict.specs.Case.{Case, Posed, leaving, arriving, Fits}
 use Rattle.verdict.specs.Excess.{oneEnd, NoExcess, Overload, Short, Carries}
 use Rattle.verdict.proofs.Plain.{base, lossNet, overload-plain, no-excess-plain, short-plain, carries-plain}
 use Rattle.verdict.specs.Record.{verdictIn, shortageIn, groupIn, Zero, Told, is-out, carries, short, TrueRecord}
@@ -96,8 +96,11 @@ rows-same same sound [] (y ∷ ys) t = absurd (true≢false (sym t))
 rows-same same sound (x ∷ xs) [] t = absurd (true≢false (sym t))
 rows-same same sound (x ∷ xs) (y ∷ ys) t = ap₂ _∷_ (sound x y (and-left _ _ t)) (rows-same same sound xs ys (and-right _ _ t))
 
+abbrev sameNumber : ℤ → ℤ → Bool
+sameNumber x y = eqb (posPart x + negPart y) (negPart x + posPart y)
+
 abbrev pub sameNumbers : List ℤ → List ℤ → Bool
-sameNumbers xs ys = sameRows (λ x y. eqb (posPart x + negPart y) (negPart x + posPart y)) xs ys
+sameNumbers xs ys = sameRows sameNumber xs ys
 
 pub same-sound : (xs ys : List ℤ) → sameNumbers xs ys ≡ true → xs ≡ ys
 same-sound = rows-same _ (λ x y t. by-parts x y (eqb-true _ _ t))
@@ -197,6 +200,23 @@ module _ (C : Case) (p : Posed C) where
           smallest = smallest-sound (lossNet C k) e (oneEnd C k) (crosses-decided (lossNet C k) e k u) (has (groupBytes g)) v t;
           beyond = inside-sound (C .buses) g i;
         })
+
+-- ---- A flow that fits.
+unfoldable pub fitsTest : Case → (ℕ → ℕ) → (ℕ → ℤ) → Bool
+fitsTest C limit f =
+    every (C .branches) (λ k. leb (natAbs (f k)) (pick (C .served k) (limit k))) & every (C .buses)
+    (λ i. sameNumber (leaving C f i -ℤ arriving C f i) (C .injection i))
+
+pub fits-sound : (C : Case) (limit : ℕ → ℕ) (f : ℕ → ℤ) → fitsTest C limit f ≡ true → Fits C limit f
+unfolding fitsTest
+fits-sound C limit f t = record {
+  still = λ k u o. by-parts (f k) (pos 0) (omega (arith, size-parts (f k), rw o at (small k u)));
+  within = λ k u o. rw o at (small k u);
+  bus = λ i u. by-parts _ _ (eqb-true _ _ (every-at _ (C .buses) (and-right _ _ t) i u));
+}
+  where
+    small : (k : ℕ) → k < C .branches → natAbs (f k) ≤ pick (C .served k) (limit k)
+    small k u = leb-true _ _ (every-at (λ k. leb (natAbs (f k)) (pick (C .served k) (limit k))) (C .branches) (and-left _ _ t) k u)
 
 -- ---- Bytes 0 to 19 of a true record.
 front-bytes : (v s : ℕ) (g h : List ℕ) → length g ≡ 16 → (j : ℕ) → j < 20 → nth (recordBytes v s g h) j ≡ nth (recordBytes v s g []) j

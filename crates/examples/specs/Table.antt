@@ -1,9 +1,10 @@
--- Document 01's marked examples (a) to (l), and two of our own, in either form.
+-- Document 01's marked examples (a) to (l), and two of our own, in either form; and books of two figures a branch, which the new form alone holds.
 use mathlib.Core.List.{List, [], _∷_}
 use Prim.Native.Nat.{ℕ}
 use lib.IntN.{ℤ, pos, negℤ}
 use Rattle.quantity.specs.Rating.{inKva}
 use Rattle.layout.specs.declared.Form.{Form}
+use Rattle.layout.specs.declared.Form.the-variants.{New}
 use Rattle.layout.specs.declared.Branch.{Branch}
 use Rattle.layout.specs.Book.{Book}
 use Rattle.meters.specs.Registers.{registers}
@@ -45,6 +46,23 @@ tie f = record {
   branches = joins 0 2 5 1 ∷ joins 0 1 3 1 ∷ joins 1 2 3 1 ∷ [];
 }
 
+-- Two figures a branch.
+abbrev pub rated : ℕ → ℕ → ℕ → ℕ → Branch
+rated first second kva kva2 = record { first = first; second = second; kva = inKva kva; kva2 = inKva kva2; status = 1 }
+
+-- Two branches side by side, each of 20 kVA and for a short time of 30.
+abbrev pub pair : Book
+pair = record { form = New; factor = 1000; injections = pos 30 ∷ minus 30 ∷ []; branches = rated 0 1 20 30 ∷ rated 0 1 20 30 ∷ [] }
+
+-- A branch beside a way of two: by the second figures the second part of the way is the narrow one, by the normal figures the first.
+abbrev pub way : Book
+way = record {
+  form = New;
+  factor = 1000;
+  injections = pos 30 ∷ pos 0 ∷ minus 30 ∷ [];
+  branches = rated 0 2 30 30 ∷ rated 0 1 10 25 ∷ rated 1 2 20 20 ∷ [];
+}
+
 abbrev pub markedRows : Form → List Row
 markedRows f =
     -- (a) all carry
@@ -72,4 +90,10 @@ markedRows f =
     ∷ shows (tie f) (short 2 (0 ∷ []) ∷ carries ∷ carries ∷ [])
     -- (d) at power factor 999: 20 kVA give 19 kW, and rounding makes branch 1 short
     ∷ shows (triangle f 999 20 1 1) (carries ∷ short 1 (0 ∷ 1 ∷ []) ∷ carries ∷ [])
+    -- a branch that carries, and is refused with 12: 30 go over the other for a short time, and 20 for good
+    ∷ shows pair (carries ∷ carries ∷ [])
+    ∷ keeps pair 0 10 (0 ∷ [])
+    -- a branch shown as short, whose 12 has another group and more
+    ∷ shows way (short 10 (0 ∷ 1 ∷ []) ∷ carries ∷ carries ∷ [])
+    ∷ keeps way 0 20 (0 ∷ [])
     ∷ []

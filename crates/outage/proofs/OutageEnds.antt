@@ -20,20 +20,24 @@ use Rattle.answer.proofs.Said.{said-accepted, said-refused}
 use Rattle.answer.proofs.Numbers.{gives-said}
 use Rattle.bits.specs.Field.{setBit}
 use Rattle.layout.specs.Layout.{statusBit}
+use Rattle.search.specs.declared.Latent.{Latent}
 use Rattle.reroute.specs.InsideVerdicts.{Losable}
 use Rattle.reroute.specs.declared.Judgement.{Judgement}
 use Rattle.reroute.specs.declared.Verdict.the-variants.{Carries, Short}
 use Rattle.replace.specs.Inside.{Replaced}
-use Rattle.verdict.specs.Case.{Case, out, on}
+use Rattle.verdict.specs.Case.{Case, out, on, Fits}
 use Rattle.verdict.specs.Record.{recordAt}
+use Rattle.verdict.proofs.Normal.{normal, fits-normal}
 use Rattle.state.specs.Case.{caseIn}
 use Rattle.state.specs.Call.{lent, refuses, unfit, overloads, accepts}
-use Rattle.state.specs.Inside.{State, Surveyed, Fillable, Poised, Listing, Rewritten}
+use Rattle.state.specs.Inside.{Held, State, Surveyed, Raisable, Raised, Fillable, Poised, Listing, Rewritten}
 use Rattle.state.specs.declared.Survey.{Survey}
 use Rattle.state.proofs.Surveying.{branch-there, sizes}
-use Rattle.state.proofs.Status.{level-of, restates}
+use Rattle.state.proofs.Status.{restates}
 use Rattle.state.proofs.TrueRecords.{losable}
+use Rattle.state.proofs.Raising.{overload-normal, raisable, raised-state}
 use Rattle.switch.specs.Inside.{With}
+use Rattle.switch.proofs.Switched.{held-switched}
 use Rattle.outage.specs.Inside.{Marked, listedAt}
 use Rattle.outage.specs.Promise.{Touched, itself, changed, takeCheck, takeNumbers, TakeCounted}
 use Rattle.outage.specs.declared.Taken.{Taken}
@@ -73,22 +77,28 @@ module _ (bs : List ℕ) (flow : List ℤ) (table : List ℕ) (b : ℕ) where
       }
 
       module _ (e : q .fits ≡ true) where
-        state : State C (on flow) (q .wires) (q .served) (q .live) (q .latent)
+        state : State (normal C) (on flow) (q .wires) (q .served) (q .live) (q .latent)
         state = p .fitting e
 
+        lent-fits : Fits C (C .limit) (on flow)
+        lent-fits = fits-normal C (C .limit) (on flow) .1 (state .fits)
+
         pub losable-here : Losable (q .wires) (q .live) (q .latent) b
-        losable-here = losable C (on flow) (q .wires) (q .served) (q .live) (q .latent) state b (sizes p (may .there) .2)
+        losable-here = losable (normal C) (on flow) (q .wires) (q .served) (q .live) (q .latent) state b (sizes p (may .there) .2)
 
         module _ (named : List ℕ) (y : Judgement) (z : Replaced (q .wires) (q .live) (q .latent) named b y) where
           pub ends-short : {t : Taken} (v : ℕ) → y .verdict ≡ Short v → length (y .group) ≡ 16 → (t .answer ≡ overloaded v (y .group)) × (t .judged ≡ 0) → TakeCounted b (lent bs flow table) (lent bs flow table) t
           ends-short v w l a = record {
-            ends = overloads ok (state .fits)
-                (rw (a .0) (leaving.overload-out C (level-of bs) flow (q .wires) (q .served) (q .live) (q .latent) state b there named y z v w l)) refl;
+            ends = overloads ok lent-fits
+                (rw (a .0)
+                (overload-normal (out C b) _
+                (leaving.overload-out (normal C) refl flow (q .wires) (q .served) (q .live) (q .latent) state b there named y z v w l))) refl;
             judges = λ q. absurd (omega (arith, ap (λ (x : Answer). numberOf (x .outcome)) (sym (a .0) ∙ q)));
             none = λ _. a .1;
           }
 
-          module _ {served : List Bool} (served-left : With (q .served) b false served) {live : List ℕ} (live-left : With (q .live) b 0 live) where
+          module _ {served : List Bool} (served-left : With (q .served) b false served) {live : List ℕ} (live-left : With (q .live) b 0 live)
+              {brief : List ℕ} (brief-left : With (q .brief) b 0 brief) where
             abbrev ls : length (q .served) ≡ 256
             ls = served-left .long
 
@@ -97,7 +107,7 @@ module _ (bs : List ℕ) (flow : List ℤ) (table : List ℕ) (b : ℕ) where
 
             pub fillable-here : Fillable (q .wires .branches) live (y .latent .ahead) (length flow)
             fillable-here = rw (live-left .row-is)
-                (leaving.fillable-out C (level-of bs) flow (q .wires) (q .served) (q .live) (q .latent) state b there named y z ls ll (length flow)
+                (leaving.fillable-out (normal C) refl flow (q .wires) (q .served) (q .live) (q .latent) state b there named y z ls ll (length flow)
                 (omega (arith, may .passes .flow-room, p .branches-are)))
 
             module _ (v : y .verdict ≡ Carries) (flow′ : List ℤ)
@@ -105,15 +115,32 @@ module _ (bs : List ℕ) (flow : List ℤ) (table : List ℕ) (b : ℕ) where
               flow-is : flow′ ≡ headed (q .wires .branches) (λ j. pos (nth (set (q .live) b 0) j) -ℤ pos (nth (y .latent .ahead) j)) flow
               flow-is = flow-left ∙ ap (λ (l : List ℕ). headed (q .wires .branches) (λ j. pos (nth l j) -ℤ pos (nth (y .latent .ahead) j)) flow) (live-left .row-is)
 
-              state-here : State (out C b) (on flow′) (q .wires) (set (q .served) b false) (set (q .live) b 0) (y .latent)
+              state-here : State (normal (out C b)) (on flow′) (q .wires) (set (q .served) b false) (set (q .live) b 0) (y .latent)
               state-here =
-                  leaving.state-out C (level-of bs) flow (q .wires) (q .served) (q .live) (q .latent) state b there named y z ls ll flow′ flow-is v
+                  leaving.state-out (normal C) refl flow (q .wires) (q .served) (q .live) (q .latent) state b there named y z ls ll flow′ flow-is v
 
-              state-left : State (out C b) (on flow′) (q .wires) served live (y .latent)
+              state-left : State (normal (out C b)) (on flow′) (q .wires) served live (y .latent)
               state-left = rw (served-left .row-is, live-left .row-is) state-here
 
-              pub poised-here : Poised (q .wires) served live (y .latent)
-              poised-here = record { case = out C b; flow = on flow′; state = state-left }
+              held-left : Held (out C b) (q .wires) served brief
+              held-left = rw (served-left .row-is, brief-left .row-is)
+                  (held-switched C (q .wires) (q .served) (q .brief) (p .held) ls (brief-left .long) b
+                  (omega (arith, there, p .held .posed .few-branches)) false 0 refl)
+
+              pub raisable-here : Raisable (q .wires .branches) live brief (y .latent .ahead) × Raisable (q .wires .branches) live brief
+                  (y .latent .back)
+              raisable-here = raisable (out C b) (on flow′) (q .wires) served live brief (y .latent) state-left held-left
+
+              -- What is left, under the limits that a loss is judged by.
+              abbrev Up : Latent → Type 0
+              Up left = Raised (q .wires .branches) live brief (y .latent .ahead) (left .ahead) × Raised (q .wires .branches) live brief
+                  (y .latent .back) (left .back)
+
+              state-raised : {left : Latent} → Up left → State (out C b) (on flow′) (q .wires) served brief left
+              state-raised up = raised-state (out C b) (on flow′) (q .wires) served live brief (y .latent) state-left held-left up
+
+              pub poised-here : {left : Latent} → Up left → Poised (q .wires) served brief left
+              poised-here up = record { case = out C b; flow = on flow′; state = state-raised up }
 
               module _ (touched : List ℕ) (m : Marked (q .wires .branches) (q .latent .ahead) (y .latent .ahead) b touched) where
                 marks : (j : ℕ) → j < C .branches → Touched (on flow) (on flow′) b j → has touched j ≡ true
@@ -124,40 +151,48 @@ module _ (bs : List ℕ) (flow : List ℤ) (table : List ℕ) (b : ℕ) where
                     go (itself e) (no n) = absurd (n e)
                     go (changed f) (no n) =
                         m .differing j (omega (arith, p .held .branches-are))
-                        (λ i. f (sym (leaving.same-flow C (level-of bs) flow (q .wires) (q .served) (q .live) (q .latent) state b there named y z ls ll flow′ flow-is j u n i)))
+                        (λ i. f (sym
+                        (leaving.same-flow (normal C) refl flow (q .wires) (q .served) (q .live)
+                        (q .latent) state b there named y z ls ll flow′ flow-is j u n i)))
 
                 only : (j : ℕ) → has touched j ≡ true → (j < C .branches) × Touched (on flow) (on flow′) b j
                 only j i = elim (m .only j i) [
                   | inl e ↦ (rw e there, itself e)
                   | inr f ↦ (
                     omega (arith, f .below, p .held .branches-are),
-                    changed (λ g. f .changed (leaving.same-ahead C (level-of bs) flow (q .wires) (q .served) (q .live) (q .latent) state b there named y z ls ll flow′ flow-is j
+                    changed (λ g. f .changed
+                        (leaving.same-ahead (normal C) refl flow (q .wires) (q .served) (q .live)
+                        (q .latent) state b there named y z ls ll flow′ flow-is j
                         (omega (arith, f .below, p .held .branches-are)) (f .other) g)),
                   )
                 ]
 
                 pub ends-taken :
-                    {bs′ table′ bits : List ℕ} {losses : ℕ} {t : Taken} → t .answer ≡ accepted → t .judged ≡ losses → named ≡ take 32 (drop 20 (recordAt table b))
+                    {bs′ table′ bits : List ℕ} {losses : ℕ} {t : Taken} {left : Latent} → Up left → t .answer ≡ accepted → t .judged ≡ losses
+                    → named ≡ take 32 (drop 20 (recordAt table b))
                     → Listing (q .wires .branches) (listedAt served touched table) bits → bs′ ≡ setBit bs (statusBit bs b) 0
-                    → ((D : Case) (f : ℕ → ℤ) → State D f (q .wires) served live (y .latent) → Rewritten D f served bits table table′ losses)
+                    → ((D : Case) (f : ℕ → ℤ) → State D f (q .wires) served brief left → Rewritten D f served bits table table′ losses)
                     → TakeCounted b (lent bs flow table) (lent bs′ flow′ table′) t
-                ends-taken {bs′} {table′} {bits} {losses} {t} a losses-are named-is list book-is fresh =
+                ends-taken {bs′} {table′} {bits} {losses} {t} {left} up a losses-are named-is list book-is fresh =
                     let c = restates bs b 0 (may .passes .book) (may .there) (omega arith) in
                     let n : q .wires .branches ≤ length flow = omega (arith, may .passes .flow-room, p .branches-are) in
                     let f : ℕ → ℤ = λ j. pos (nth (set (q .live) b 0) j) -ℤ pos (nth (y .latent .ahead) j) in
-                    let redone = fresh (out C b) (on flow′) state-left in
+                    let redone = fresh (out C b) (on flow′) (state-raised up) in
                     let list′ : Listing (C .branches) (listedAt served touched table) bits = rw (p .held .branches-are) at list in
                     record {
                       none = λ n. absurd (n a);
                       judges = λ _. judges (out C b) served touched (Touched (on flow) (on flow′) b) (p .held .posed .few-branches) (state-left .held .served-is) marks only table bits list′ (losses-are ∙ redone .judged-is);
-                      ends = accepts ok (state .fits) (rw a said-accepted) (record {
+                      ends = accepts ok lent-fits (rw a said-accepted) (record {
                         book-is = book-is;
                         book-accepted = rw book-is (c .book);
                         case-is = rw book-is (c .case-is);
                         updated = updated (out C b) served touched (Touched (on flow) (on flow′) b) (p .held .posed .few-branches) (state-left .held .served-is) marks only table bits list′
-                            (state-left .fits) (redone .table-is) (ap length flow-is ∙ length-headed (q .wires .branches) f flow n)
+                            (state-raised up .fits) (redone .table-is) (ap length flow-is ∙ length-headed (q .wires .branches) f flow n)
                             (λ k u. rw flow-is (headed-rest (q .wires .branches) f flow k (pos 0) (omega (arith, p .held .branches-are))));
-                        idle = leaving.idle-out C (level-of bs) flow (q .wires) (q .served) (q .live) (q .latent) state b there named y z ls ll flow′ flow-is;
-                        confined = leaving.confined-out C (level-of bs) flow (q .wires) (q .served) (q .live) (q .latent) state b there named y z ls ll flow′ flow-is (recordAt table b) named-is;
+                        idle = leaving.idle-out (normal C) refl flow (q .wires) (q .served) (q .live)
+                            (q .latent) state b there named y z ls ll flow′ flow-is;
+                        confined = λ h F. leaving.confined-out (normal C) refl flow (q .wires) (q .served) (q .live)
+                            (q .latent) state b there named y z ls ll flow′ flow-is (recordAt table b) named-is
+                            h (fits-normal (out C b) (C .limit) h .0 F);
                       });
                     }

@@ -45,7 +45,7 @@ pub record TakenOut (b : ℕ) (before after : Lent) : Type 0 where
   pub updated : Updated (out (caseIn (before .book)) b) (Touched (on (before .flow)) (on (after .flow)) b) before after
   -- if the branch's flow was 0, no flow changes
   pub idle : on (before .flow) b ≡ pos 0 → (j : ℕ) → j < caseIn (before .book) .branches → on (after .flow) j ≡ on (before .flow) j
-  -- if some fitting flow is confined to the recorded reroute, the flow left is one of those
+  -- flow keeps to the recorded reroute where that fits the normal limits: if some such flow is confined to it, the flow left is one of those
   pub confined : (h : ℕ → ℤ) → Fits (out (caseIn (before .book)) b) (caseIn (before .book) .limit) h
       → Confined (caseIn (before .book)) (on (before .flow)) (recordAt (before .table) b) b h
       → Confined (caseIn (before .book)) (on (before .flow)) (recordAt (before .table) b) b (on (after .flow))

@@ -74,7 +74,7 @@ fn short(excess: u32, group: [u8; 16]) -> Taken
     Taken { answer, judged: 0 }
 }
 
-// Refusals 1 to 12; accepted, one status bit is cleared, the flow is rerouted, and the shortlist is written anew.
+// Refusals 1 to 12; accepted, one status bit is cleared, the flow is rerouted within the normal limits, and the shortlist is written anew.
 // The losses judged on the way are counted.
 pub fn take_out_counted(book: &mut [u8], flow: &mut [i32], table: &mut [u8], branch: usize) -> Taken
     ensures { λ r. ⌜ TakeCounted branch (lent (now (book .entry)) (now (flow .entry)) (now (table .entry))) (lent (now (book .exit)) (now (flow .exit)) (now (table .exit))) r ⌝ }
@@ -90,6 +90,7 @@ pub fn take_out_counted(book: &mut [u8], flow: &mut [i32], table: &mut [u8], bra
     }
     let wires = lent.wires;
     let live = lent.live;
+    let brief = lent.brief;
     let latent = lent.latent;
     let named = record::reroute_of(record::stretch(table, branch));
     let judged = replace::replace(wires, live, latent, named, branch);
@@ -105,9 +106,11 @@ pub fn take_out_counted(book: &mut [u8], flow: &mut [i32], table: &mut [u8], bra
     let touched = touch(wires.branches, before, after, branch);
     let served = switch::served_with(serving, branch, false);
     let limits = switch::kw_with(live, branch, 0);
+    let briefs = switch::kw_with(brief, branch, 0);
     let listed = shortlist(table, wires.branches, served, touched);
     state::fill_flow(flow, wires.branches, limits, after);
-    let losses = state::rewrite(table, wires, served, limits, left, listed);
+    let raised = state::raise(wires.branches, limits, briefs, left);
+    let losses = state::rewrite(table, wires, served, briefs, raised, listed);
     layout::set_status(book, branch, 0);
     told(Outcome::Accepted, losses)
 }

@@ -20,8 +20,9 @@ use Rattle.search.specs.declared.Latent.{Latent}
 use Rattle.verdict.specs.Case.{Case, back, on}
 use Rattle.state.specs.Case.{caseIn}
 use Rattle.state.specs.Call.{lent, refuses, unfit, accepts}
-use Rattle.state.specs.Inside.{State, Surveyed, Poised, Listing, Rewritten}
+use Rattle.state.specs.Inside.{State, Surveyed, Raisable, Raised, Poised, Listing, Rewritten}
 use Rattle.state.specs.declared.Survey.{Survey}
+use Rattle.state.proofs.Raising.{raisable, raised-state}
 use Rattle.state.proofs.Rewriting.{renewed}
 use Rattle.state.proofs.Surveying.{branch-there}
 use Rattle.state.proofs.Status.{restates}
@@ -55,36 +56,49 @@ module _ (bs : List ℕ) (flow : List ℤ) (table : List ℕ) (b : ℕ) where
       pub ends-unfit : {r : Answer} → q .fits ≡ false → r ≡ refused 11 → BackEnds b (lent bs flow table) (lent bs flow table) r
       ends-unfit e a = unfit ok (p .unfit e) (rw a (said-refused 11 (λ z. omega arith) (λ z. omega arith))) refl
 
-      module _ (e : q .fits ≡ true) {served : List Bool} {live ahead back-row : List ℕ}
-          (served-is : With (q .served) b true served) (live-is : With (q .live) b (kwAt (q .limit) b) live)
-          (ahead-is : With (q .latent .ahead) b (kwAt (q .limit) b) ahead) (back-is : With (q .latent .back) b (kwAt (q .limit) b) back-row) where
-        abbrev left : Latent
-        left = record { ahead = ahead; back = back-row }
+      module _ (e : q .fits ≡ true) where
+        pub raisable-here : Raisable (q .wires .branches) (q .live) (q .brief) (q .latent .ahead) × Raisable (q .wires .branches) (q .live) (q .brief)
+            (q .latent .back)
+        raisable-here = raisable C (on flow) (q .wires) (q .served) (q .live) (q .brief) (q .latent) (p .fitting e) (p .held)
 
-        state-here : State (back C b) (on flow) (q .wires) served live left
-        state-here = rw (served-is .row-is, live-is .row-is, ahead-is .row-is, back-is .row-is)
-            (comeback.state-back C (on flow) (q .wires) (q .served) (q .live) (q .latent) (p .fitting e) b there (may .out-now) (kwAt (q .limit) b) (p .limit-is b)
-            (served-is .long) (live-is .long) (ahead-is .long) (back-is .long))
+        module _ (up : Latent)
+            (raised : Raised (q .wires .branches) (q .live) (q .brief) (q .latent .ahead) (up .ahead) × Raised (q .wires .branches) (q .live)
+            (q .brief) (q .latent .back) (up .back))
+            {served : List Bool} {brief ahead back-row : List ℕ}
+            (served-is : With (q .served) b true served) (brief-is : With (q .brief) b (kwAt (q .loss) b) brief)
+            (ahead-is : With (up .ahead) b (kwAt (q .loss) b) ahead) (back-is : With (up .back) b (kwAt (q .loss) b) back-row) where
+          state : State C (on flow) (q .wires) (q .served) (q .brief) up
+          state = raised-state C (on flow) (q .wires) (q .served) (q .live) (q .brief) (q .latent) (p .fitting e) (p .held) raised
 
-        pub poised-here : Poised (q .wires) served live left
-        poised-here = record { case = back C b; flow = on flow; state = state-here }
+          abbrev left : Latent
+          left = record { ahead = ahead; back = back-row }
 
-        pub ends-back : {bs′ table′ bits : List ℕ} {losses : ℕ} {r : Answer} → r ≡ accepted → Listing (q .wires .branches) (anewAt table b) bits
-            → bs′ ≡ setBit bs (statusBit bs b) 1
-            → ((D : Case) (f : ℕ → ℤ) → State D f (q .wires) served live left → Rewritten D f served bits table table′ losses)
-            → BackEnds b (lent bs flow table) (lent bs′ flow table′) r
-        ends-back {bs′} {table′} {bits} a list book-is fresh =
-            let c = restates bs b 1 (may .passes .book) (may .there) (omega arith) in
-            let redone = fresh (back C b) (on flow) state-here .table-is in
-            let bit : (k : ℕ) → k < C .branches → k < q .wires .branches = λ k u. omega (arith, p .held .branches-are) in
-            let anew = renewed (back C b) (Anew table b) (state-here .fits) redone
-            (λ k u h. list .bit k (bit k u) ∙ anew-listed table b k h) (λ k u h. list .bit k (bit k u) ∙ anew-unlisted table b k h) refl (λ k u. refl) in
-            accepts ok (p .fitting e .fits) (rw a said-accepted) (record {
-              book-is = book-is;
-              book-accepted = rw book-is (c .book);
-              case-is = rw book-is (c .case-is);
-              flow-is = refl;
-              own-is = comeback.own-back C (on flow) (q .wires) (q .served) (q .live) (q .latent) (p .fitting e) b there (may .out-now) (kwAt (q .limit) b) (p .limit-is b)
-                  (served-is .long) (live-is .long) (ahead-is .long) (back-is .long) _ (anew .rewritten b there (itself refl));
-              renewed = anew;
-            })
+          state-here : State (back C b) (on flow) (q .wires) served brief left
+          state-here = rw (served-is .row-is, brief-is .row-is, ahead-is .row-is, back-is .row-is)
+              (comeback.state-back C (on flow) (q .wires) (q .served) (q .brief) up state b there (may .out-now) (kwAt (q .loss) b) (p .loss-is b)
+              (served-is .long) (brief-is .long) (ahead-is .long) (back-is .long))
+
+          pub poised-here : Poised (q .wires) served brief left
+          poised-here = record { case = back C b; flow = on flow; state = state-here }
+
+          pub ends-back : {bs′ table′ bits : List ℕ} {losses : ℕ} {r : Answer} → r ≡ accepted → Listing (q .wires .branches) (anewAt table b) bits
+              → bs′ ≡ setBit bs (statusBit bs b) 1
+              → ((D : Case) (f : ℕ → ℤ) → State D f (q .wires) served brief left → Rewritten D f served bits table table′ losses)
+              → BackEnds b (lent bs flow table) (lent bs′ flow table′) r
+          ends-back {bs′} {table′} {bits} a list book-is fresh =
+              let c = restates bs b 1 (may .passes .book) (may .there) (omega arith) in
+              let redone = fresh (back C b) (on flow) state-here .table-is in
+              let bit : (k : ℕ) → k < C .branches → k < q .wires .branches = λ k u. omega (arith, p .held .branches-are) in
+              let anew = renewed (back C b) (Anew table b) (state-here .fits) redone
+              (λ k u h. list .bit k (bit k u) ∙ anew-listed table b k h) (λ k u h. list .bit k (bit k u) ∙ anew-unlisted table b k h) refl
+              (λ k u. refl) in
+              accepts ok (state .fits) (rw a said-accepted) (record {
+                book-is = book-is;
+                book-accepted = rw book-is (c .book);
+                case-is = rw book-is (c .case-is);
+                flow-is = refl;
+                own-is = comeback.own-back C (on flow) (q .wires) (q .served) (q .brief) up state b there (may .out-now) (kwAt (q .loss) b)
+                    (p .loss-is b)
+                    (served-is .long) (brief-is .long) (ahead-is .long) (back-is .long) _ (anew .rewritten b there (itself refl));
+                renewed = anew;
+              })

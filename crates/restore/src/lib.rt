@@ -38,7 +38,7 @@ fn anew(table: &[u8], branches: usize, branch: usize) -> [u8; 32]
 }
 
 // Refusals 1 to 9, 17 and 11; accepted, one status bit is set, and the records that aren't carrying are written anew.
-// A branch without flow has its whole limit left in each direction.
+// A branch without flow has its whole limit left in each direction. The flow is tested by the normal limits, and losses are judged by the second.
 pub fn bring_back(book: &mut [u8], flow: &[i32], table: &mut [u8], branch: usize) -> Answer
     ensures { λ r. ⌜ BackEnds branch (lent (now (book .entry)) (now (flow .entry)) (now (table .entry))) (lent (now (book .exit)) (now (flow .entry)) (now (table .exit))) r ⌝ }
 {
@@ -52,21 +52,23 @@ pub fn bring_back(book: &mut [u8], flow: &[i32], table: &mut [u8], branch: usize
         return answer::answer_with(answer::refuse(11));
     }
     let wires = lent.wires;
-    let limit = lent.limit;
-    let kw = limit[branch].0;
+    let loss = lent.loss;
+    let kw = loss[branch].0;
     let serving = lent.served;
     let live = lent.live;
+    let brief = lent.brief;
     let latent = lent.latent;
-    let ahead = latent.ahead;
-    let back = latent.back;
+    let raised = state::raise(wires.branches, live, brief, latent);
+    let ahead = raised.ahead;
+    let back = raised.back;
     let served = switch::served_with(serving, branch, true);
-    let limits = switch::kw_with(live, branch, kw);
+    let briefs = switch::kw_with(brief, branch, kw);
     let left = Latent {
         ahead: switch::kw_with(ahead, branch, kw),
         back: switch::kw_with(back, branch, kw),
     };
     let listed = anew(table, wires.branches, branch);
-    state::rewrite(table, wires, served, limits, left, listed);
+    state::rewrite(table, wires, served, briefs, left, listed);
     layout::set_status(book, branch, 1);
     answer::answer_with(Outcome::Accepted)
 }

@@ -5,7 +5,7 @@ use answer::Answer;
 use answer::Outcome;
 use reroute::Verdict;
 
-// Refusals 1 to 8 and 12; accepted, the flow and the table of every branch.
+// Refusals 1 to 8 and 12; accepted, the flow and the table of every branch. The flow keeps to the normal limits, and losses are judged by the second.
 pub fn screen(book: &[u8], flow: &mut [i32], table: &mut [u8]) -> Answer
     ensures { λ r. ⌜ ScreenEnds (lent (now (book .entry)) (now (flow .entry)) (now (table .entry))) (lent (now (book .entry)) (now (flow .exit)) (now (table .exit))) r ⌝ }
 {
@@ -16,6 +16,7 @@ pub fn screen(book: &[u8], flow: &mut [i32], table: &mut [u8]) -> Answer
     let plan = state::prepare(book::rows_of(book));
     let wires = plan.wires;
     let live = plan.live;
+    let brief = plan.brief;
     let gain = plan.gain;
     let load = plan.load;
     let base = reroute::base_flow(wires, live, gain, load);
@@ -31,6 +32,7 @@ pub fn screen(book: &[u8], flow: &mut [i32], table: &mut [u8]) -> Answer
     let ahead = latent.ahead;
     let served = plan.served;
     state::fill_flow(flow, wires.branches, live, ahead);
-    state::rewrite(table, wires, served, live, latent, [255u8; 32]);
+    let raised = state::raise(wires.branches, live, brief, latent);
+    state::rewrite(table, wires, served, brief, raised, [255u8; 32]);
     answer::answer_with(Outcome::Accepted)
 }

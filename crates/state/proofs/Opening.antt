@@ -11,19 +11,27 @@ use lib.ListN.{getD, List·getD-eq-default}
 use Rattle.rows.specs.Row.{nth}
 use Rattle.rows.specs.Sum.{pick}
 use Rattle.rows.proofs.Sum.{side, below, equal, above}
+use Rattle.quantity.specs.declared.Kw.{Kw}
+use Rattle.quantity.specs.Inside.{kwAt}
 use Rattle.quantity.specs.Rating.{limitOf}
 use Rattle.quantity.specs.Signed.{posPart, negPart}
 use Rattle.quantity.proofs.Parts.{size-parts}
+use Rattle.layout.specs.declared.Branch.{Branch}
 use Rattle.layout.specs.Book.{Book, buses, count, injection, branch, noBranch, WellFormed}
 use Rattle.book.specs.Inside.{RowsRead}
 use Rattle.book.specs.declared.cases.CaseRows.{CaseRows}
 use Rattle.verdict.specs.Case.{Posed}
 use Rattle.state.specs.Case.{caseOf}
-use Rattle.state.specs.Inside.{Plannable, Planned, Held}
+use Rattle.verdict.proofs.Normal.{normal}
+use Rattle.state.specs.Inside.{Live, Plannable, Planned, Held}
 use Rattle.state.specs.declared.Plan.{Plan}
+use Rattle.state.proofs.Raising.{held-normal}
 
 limit-small : (kva factor : ℕ) → kva ≤ 1000000 → factor ≤ 1000 → limitOf kva factor ≤ 1000000
 limit-small kva factor h g = let m : kva * factor ≤ 1000000 * 1000 = mul-le-mul h g in omega arith
+
+limit-rising : (kva kva2 factor : ℕ) → kva ≤ kva2 → limitOf kva factor ≤ limitOf kva2 factor
+limit-rising kva kva2 factor h = let m : kva * factor ≤ kva2 * factor = mul-le-mul h (omega arith) in omega arith
 
 -- A well-formed book makes a case that can be judged.
 pub posed : (b : Book) → WellFormed b → Posed (caseOf b)
@@ -37,8 +45,8 @@ posed b w = record {
   apart = λ k u. w .good k u .apart;
   sized = λ i u. omega (arith, w .sizes i u, size-parts (injection b i));
   balanced = w .balanced;
-  rated = λ k u. limit-small (branch b k .kva .0) (b .factor) (w .good k u .rating) (w .small-factor);
-  rising = λ k u. omega arith;
+  rated = λ k u. limit-small (branch b k .kva2 .0) (b .factor) (w .good k u .second-rating) (w .small-factor);
+  rising = λ k u. limit-rising (branch b k .kva .0) (branch b k .kva2 .0) (b .factor) (w .good k u .not-below);
 }
 
 module _ (b : Book) (w : WellFormed b) (r : CaseRows) (h : RowsRead b r) where
@@ -57,20 +65,23 @@ module _ (b : Book) (w : WellFormed b) (r : CaseRows) (h : RowsRead b r) where
     past : (k : ℕ) → count b ≤ k → branch b k ≡ noBranch
     past k u = List·getD-eq-default (b .branches) noBranch {n = k} u
 
-    live-at : (k : ℕ) → nth (q .live) k ≡ pick (eqb (branch b k .status) 1) (limitOf (branch b k .kva .0) (b .factor))
-    live-at k = elim (side k (count b)) [
+    -- A row of live limits, by either figure of a branch.
+    row-at : (g : Branch → ℕ) (limit : List Kw) (row : List ℕ) → Live (r .branches) (r .served) limit row
+        → ((k : ℕ) → kwAt limit k ≡ limitOf (g (branch b k)) (b .factor))
+        → (k : ℕ) → nth row k ≡ pick (eqb (branch b k .status) 1) (limitOf (g (branch b k)) (b .factor))
+    row-at g limit row live is k = elim (side k (count b)) [
       | below l ↦ within l
       | equal l ↦ beyond (omega arith)
       | above l ↦ beyond (omega arith)
     ]
       where
-        within : k < count b → nth (q .live) k ≡ pick (eqb (branch b k .status) 1) (limitOf (branch b k .kva .0) (b .factor))
-        within l = p .live-row .in-service k (omega (arith, h .branches-are)) ∙ rw (h .served-is k, h .limit-is k) refl
+        within : k < count b → nth row k ≡ pick (eqb (branch b k .status) 1) (limitOf (g (branch b k)) (b .factor))
+        within l = live .in-service k (omega (arith, h .branches-are)) ∙ rw (h .served-is k, is k) refl
 
-        beyond : count b ≤ k → nth (q .live) k ≡ pick (eqb (branch b k .status) 1) (limitOf (branch b k .kva .0) (b .factor))
-        beyond l = p .live-row .elsewhere k (omega (arith, h .branches-are)) ∙ rw (past k l) refl
+        beyond : count b ≤ k → nth row k ≡ pick (eqb (branch b k .status) 1) (limitOf (g (branch b k)) (b .factor))
+        beyond l = live .elsewhere k (omega (arith, h .branches-are)) ∙ rw (past k l) refl
 
-    pub held : Held (caseOf b) (q .wires) (q .served) (q .live)
+    pub held : Held (caseOf b) (q .wires) (q .served) (q .brief)
     unfolding caseOf
     held = record {
       posed = posed b w;
@@ -80,8 +91,13 @@ module _ (b : Book) (w : WellFormed b) (r : CaseRows) (h : RowsRead b r) where
       first-is = ap nth (p .wiring .same-first) ∙ fun-ext (h .first-is);
       second-is = ap nth (p .wiring .same-second) ∙ fun-ext (h .second-is);
       served-is = λ k. ap (λ (l : List Bool). getD l k false) (p .same-served) ∙ h .served-is k;
-      live-is = fun-ext live-at;
+      live-is = fun-ext (row-at (λ x. x .kva2 .0) (r .loss) (q .brief) (p .brief-row) (h .loss-is));
     }
+
+    pub held-live : Held (normal (caseOf b)) (q .wires) (q .served) (q .live)
+    unfolding caseOf
+    held-live = held-normal (caseOf b) (q .wires) (q .served) (q .brief) (q .live) held
+        (fun-ext (row-at (λ x. x .kva .0) (r .limit) (q .live) (p .live-row) (h .limit-is)))
 
     pub gain-is : nth (q .gain) ≡ (λ i. posPart (caseOf b .injection i))
     unfolding caseOf

@@ -4,13 +4,14 @@ use mathlib.Core.Bool.{true, cond}
 use mathlib.Core.List.{List}
 use Prim.Native.Nat.{ℕ, _+_, _-_, _<_}
 use native.Mathlib.Omega.{arith}
-use native.Mathlib.Decide.{ℕ-discrete}
+use native.Mathlib.Decide.{ℕ-discrete, decLt}
 use borrow.Author.Tests.{eq-eqb, ne-eqb, eqb-true}
 use lib.Dec.{eqb}
-use lib.ListN.{length-set}
+use lib.ListN.{length-set, List·getD-eq-default}
 use lib.Seq.{getD-set-same, getD-set-other}
 use Rattle.rows.specs.Bit.{bitAt}
 use Rattle.answer.specs.declared.Outcome.the-variants.{Accepted}
+use Rattle.quantity.specs.declared.Kva.{Kva}
 use Rattle.quantity.specs.Rating.{limitOf}
 use Rattle.bits.specs.Field.{setBit}
 use Rattle.bits.proofs.ReadAsPut.{field-one}
@@ -55,6 +56,7 @@ module _ (B : Book) (k v : ℕ) (there : k < count B) where
       let g = fun-ext (same-of (λ x. x .second) (λ x. refl)) in
       let s = fun-ext served-of in
       let l = fun-ext (same-of (λ x. limitOf (x .kva .0) (B .factor)) (λ x. refl)) in
+      let m = fun-ext (same-of (λ x. limitOf (x .kva2 .0) (B .factor)) (λ x. refl)) in
       λ i. record {
         buses = book.buses B;
         branches = b i;
@@ -63,17 +65,21 @@ module _ (B : Book) (k v : ℕ) (there : k < count B) where
         served = s i;
         injection = book.injection B;
         limit = l i;
-        loss-limit = l i;
+        loss-limit = m i;
       }
 
 pub branches-of : (bs : List ℕ) → caseIn bs .branches ≡ branchesIn bs
 unfolding caseOf
 branches-of bs = count-of bs
 
--- A case of a book has the same limits before and after an outage.
-pub level-of : (bs : List ℕ) → Level (caseIn bs)
+-- Where both figures are equal on every branch, a loss is judged by the normal limits: past the last branch both are 0.
+pub level-of : (b : Book) → ((k : ℕ) → k < count b → branch b k .kva2 ≡ branch b k .kva) → Level (caseOf b)
 unfolding caseOf
-level-of bs = refl
+level-of b e = fun-ext (λ k. ap (λ (x : Kva). limitOf (x .0) (b .factor)) (equal k (decLt k (count b))))
+  where
+    equal : (k : ℕ) → Dec (k < count b) → branch b k .kva2 ≡ branch b k .kva
+    equal k (yes l) = e k l
+    equal k (no n) = rw (List·getD-eq-default (b .branches) noBranch {n = k} (omega arith)) refl
 
 -- The bytes with the one status bit made v: an accepted book, and the case with the branch in or out of service.
 pub record Restated (bs : List ℕ) (b v : ℕ) (bs′ : List ℕ) : Type 0 where

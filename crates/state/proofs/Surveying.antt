@@ -1,5 +1,5 @@
 -- A lent book and flow, surveyed: the rows are those of its case, and the test of the flow is whether it fits.
-use mathlib.Core.Path.{_≡_, _∙_}
+use mathlib.Core.Path.{_≡_, refl, _∙_}
 use mathlib.Core.List.{List}
 use Prim.Native.Nat.{ℕ, _≤_, _<_}
 use native.Mathlib.Omega.{arith}
@@ -15,14 +15,15 @@ use Rattle.book.specs.declared.cases.CaseRows.{CaseRows}
 use Rattle.fit.specs.Inside.{Lendable, Fitted}
 use Rattle.fit.specs.declared.Lending.{Lending}
 use Rattle.quantity.specs.Inside.{kwAt}
+use Rattle.verdict.proofs.Normal.{normal, fits-normal}
 use Rattle.state.specs.Case.{caseOf, caseIn}
 use Rattle.state.specs.Inside.{Held, Plannable, Planned, Surveyable, Surveyed}
 use Rattle.state.specs.declared.Plan.{Plan}
 use Rattle.state.specs.declared.Survey.{Survey}
 use Rattle.state.proofs.Checked.{Passed}
-use Rattle.state.proofs.Opening.{plannable, held, gain-is, load-is, small-injections}
+use Rattle.state.proofs.Opening.{plannable, held, held-live, gain-is, load-is, small-injections}
 use Rattle.state.proofs.Lending as lending
-use Rattle.state.proofs.Status.{branches-of, level-of}
+use Rattle.state.proofs.Status.{branches-of}
 
 -- What passes the checks of every call can be surveyed.
 pub surveyable : {bs : List ℕ} {flows bytes : ℕ} → Passed bs flows bytes → Surveyable bs flows
@@ -43,13 +44,16 @@ module _ (bs : List ℕ) (flow : List ℤ) (ok : Surveyable bs (length flow)) (r
   pub plannable-here : Plannable r
   plannable-here = plannable (bookOf bs) well r h
 
-  limits-here : (k : ℕ) → kwAt (r .limit) k ≡ caseIn bs .loss-limit k
+  losses-here : (k : ℕ) → kwAt (r .loss) k ≡ caseIn bs .loss-limit k
   unfolding caseOf
-  limits-here = h .limit-is
+  losses-here = h .loss-is
 
   module _ (q : Plan) (p : Planned r q) where
-    held-here : Held (caseIn bs) (q .wires) (q .served) (q .live)
+    held-here : Held (caseIn bs) (q .wires) (q .served) (q .brief)
     held-here = held (bookOf bs) well r h q p
+
+    live-here : Held (normal (caseIn bs)) (q .wires) (q .served) (q .live)
+    live-here = held-live (bookOf bs) well r h q p
 
     gains : nth (q .gain) ≡ (λ i. posPart (caseIn bs .injection i))
     gains = gain-is (bookOf bs) well r h q p
@@ -62,16 +66,18 @@ module _ (bs : List ℕ) (flow : List ℤ) (ok : Surveyable bs (length flow)) (r
 
     pub lendable-here : Lendable (q .wires) (q .live) (q .gain) (q .load) (length flow)
     lendable-here =
-        lending.lendable (caseIn bs) (level-of bs) (q .wires) (q .served) (q .live) (q .gain) (q .load) held-here gains loads (length flow)
+        lending.lendable (normal (caseIn bs)) refl (q .wires) (q .served) (q .live) (q .gain) (q .load) live-here gains loads (length flow)
         (omega (arith, ok .flow-room, count-here))
         (small-injections (bookOf bs) well (q .gain) (q .load) gains loads)
 
     pub surveyed : (x : Lending) → Fitted (q .wires) flow (q .live) (q .gain) (q .load) x
-        → Surveyed bs flow (record { wires = q .wires; served = q .served; limit = r .limit; live = q .live; fits = x .fits; latent = x .latent })
+        → Surveyed bs flow
+        (record { wires = q .wires; served = q .served; loss = r .loss; live = q .live; brief = q .brief; fits = x .fits; latent = x .latent })
     surveyed x d = record {
       held = held-here;
       branches-are = count-here;
-      limit-is = limits-here;
-      fitting = lending.fit-state (caseIn bs) (level-of bs) (q .wires) (q .served) (q .live) (q .gain) (q .load) held-here gains loads flow x d;
-      unfit = lending.fit-not (caseIn bs) (level-of bs) (q .wires) (q .served) (q .live) (q .gain) (q .load) held-here gains loads flow x d;
+      loss-is = losses-here;
+      fitting = lending.fit-state (normal (caseIn bs)) refl (q .wires) (q .served) (q .live) (q .gain) (q .load) live-here gains loads flow x d;
+      unfit = λ e F. lending.fit-not (normal (caseIn bs)) refl (q .wires) (q .served) (q .live) (q .gain) (q .load) live-here gains loads flow x d e
+          (fits-normal (caseIn bs) _ _ .0 F);
     }

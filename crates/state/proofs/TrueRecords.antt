@@ -29,7 +29,7 @@ use Rattle.verdict.specs.Case.{Case, Posed, out, Fits}
 use Rattle.verdict.specs.Excess.{NoExcess, Short as IsShort}
 use Rattle.verdict.specs.Record.{shortageIn, groupIn, is-out, carries, short, TrueRecord}
 use Rattle.verdict.proofs.Plain.{netOf, flowOf, lossNet}
-use Rattle.verdict.proofs.Fitting.{nothing, served-other, fits-balanced, fits-none, settled-fits}
+use Rattle.verdict.proofs.Fitting.{nothing, fits-balanced, fits-none, settled-fits, fits-more, fits-idle}
 use Rattle.verdict.proofs.Loss.{short-is, fits-carries}
 use Rattle.verdict.proofs.Alike.{SameFlow, within-alike, balanced-alike, net-out, gains-loads, shortage-limit}
 use Rattle.record.specs.Inside.{recordBytes}
@@ -76,6 +76,27 @@ module _ (C : Case) (W : Wires) (served : List Bool) (live : List ℕ) (h : Held
 
   pub held-small : (k : ℕ) → k < W .branches → nth live k ≤ 1000000
   held-small k u = omega (arith, held-limit k, pick-part (C .served k) (C .loss-limit k), h .posed .rated k (rw (← h .branches-are) u))
+
+-- ---- A branch that carries, with the bits of its reroute.
+pub carrying-record : (C : Case) (f : ℕ → ℤ) → Posed C → (k : ℕ) (bits : List ℕ) → length bits ≡ 32 → Bytes bits → C .served k ≡ true → (g : ℕ → ℤ)
+    → Fits (out C k) (C .loss-limit) g
+    → ((j : ℕ) → j < C .branches → (has bits j ≡ true) ↔ ((j ≡ k → ⊥) × (g j ≡ f j → ⊥)))
+    → ((j : ℕ) → C .branches ≤ j → has bits j ≡ false) → (f k ≡ pos 0 → (j : ℕ) → has bits j ≡ false)
+    → TrueRecord C f k (recordBytes 1 0 (none 16) bits)
+carrying-record C f p k bits l h e g w exactly beyond idle =
+    let n = record-reroute 1 0 (none 16) bits refl l in
+    record {
+      long = record-long 1 0 (none 16) bits refl l;
+      bytes = record-bytes 1 0 (none 16) bits refl l (omega arith) (omega arith) (bytes-zeros 16) h;
+      told = carries e (fits-carries C g k p w) (record-verdict 1 0 (none 16) bits refl l) (record-plain 1 0 (none 16) bits refl l refl (none-at 16))
+          (record {
+            flow = g;
+            fits = w;
+            exactly = λ j u. (λ q. exactly j u .0 (sym (n j) ∙ q), λ q. n j ∙ exactly j u .1 q);
+            beyond = λ j u. n j ∙ beyond j u;
+            idle = λ z j. n j ∙ idle z j;
+          });
+    }
 
 module _ (C : Case) (f : ℕ → ℤ) (W : Wires) (served : List Bool) (live : List ℕ) (lat : Latent) (s : State C f W served live lat) where
   p : Posed C
@@ -131,47 +152,17 @@ module _ (C : Case) (f : ℕ → ℤ) (W : Wires) (served : List Bool) (live : L
     ]);
   }
 
-  -- ---- A branch that carries, with the bits of its reroute.
-  carrying-record : (k : ℕ) (bits : List ℕ) → length bits ≡ 32 → Bytes bits → C .served k ≡ true → (g : ℕ → ℤ) → Fits (out C k) (C .loss-limit) g
-      → ((j : ℕ) → j < C .branches → (has bits j ≡ true) ↔ ((j ≡ k → ⊥) × (g j ≡ f j → ⊥)))
-      → ((j : ℕ) → C .branches ≤ j → has bits j ≡ false) → (f k ≡ pos 0 → (j : ℕ) → has bits j ≡ false)
-      → TrueRecord C f k (recordBytes 1 0 (none 16) bits)
-  carrying-record k bits l h e g w exactly beyond idle =
-      let n = record-reroute 1 0 (none 16) bits refl l in
-      record {
-        long = record-long 1 0 (none 16) bits refl l;
-        bytes = record-bytes 1 0 (none 16) bits refl l (omega arith) (omega arith) (bytes-zeros 16) h;
-        told = carries e (fits-carries C g k (s .held .posed) w) (record-verdict 1 0 (none 16) bits refl l) (record-plain 1 0 (none 16) bits refl l refl (none-at 16)) (record {
-          flow = g;
-          fits = w;
-          exactly = λ j u. (λ q. exactly j u .0 (sym (n j) ∙ q), λ q. n j ∙ exactly j u .1 q);
-          beyond = λ j u. n j ∙ beyond j u;
-          idle = λ z j. n j ∙ idle z j;
-        });
-      }
-
+  -- ---- A branch that carries.
   -- A branch without flow is spared as it stands.
   pub still-fits : (k : ℕ) → k < C .branches → f k ≡ pos 0 → Fits (out C k) (C .loss-limit) f
-  still-fits k u z = record {
-    still = λ j v o. elim (side j k) [
-      | below l ↦ s .fits .still j v (sym (served-other C k false j (λ e. omega arith)) ∙ o)
-      | equal l ↦ rw l z
-      | above l ↦ s .fits .still j v (sym (served-other C k false j (λ e. omega arith)) ∙ o)
-    ];
-    within = λ j v o. elim (side j k) [
-      | below l ↦ omega (arith, s .fits .within j v (sym (served-other C k false j (λ e. omega arith)) ∙ o), s .held .posed .rising j v)
-      | equal l ↦ rw (l, z) (omega arith)
-      | above l ↦ omega (arith, s .fits .within j v (sym (served-other C k false j (λ e. omega arith)) ∙ o), s .held .posed .rising j v)
-    ];
-    bus = s .fits .bus;
-  }
+  still-fits k u z = fits-more (out C k) (C .limit) (C .loss-limit) f (s .held .posed .rising) (fits-idle C k (C .limit) f (s .fits) z)
 
   still-is : (k : ℕ) → k < C .branches → nth (lat .ahead) k ≡ nth live k → f k ≡ pos 0
   still-is k u e = by-parts (f k) (pos 0) (omega (arith, s .latents .ahead-is k u, limit-at k, e))
 
   pub judge-still : (k : ℕ) → k < C .branches → C .served k ≡ true → nth (lat .ahead) k ≡ nth live k → TrueRecord C f k (recordBytes 1 0 (none 16) (none 32))
   judge-still k u e z =
-      carrying-record k (none 32) refl (bytes-zeros 32) e f (still-fits k u (still-is k u z))
+      carrying-record C f (s .held .posed) k (none 32) refl (bytes-zeros 32) e f (still-fits k u (still-is k u z))
       (λ j v. (λ h. absurd (false≢true (sym (none-has 32 j) ∙ h)), λ h. absurd (h .1 refl)))
       (λ j v. none-has 32 j) (λ z′ j. none-has 32 j)
 
@@ -210,7 +201,7 @@ module _ (C : Case) (f : ℕ → ℤ) (W : Wires) (served : List Bool) (live : L
       let d : Changed (C .branches) (lat .ahead) (r .latent .ahead) k bits = rw (s .held .branches-are) at ch in
       let c : Carrying (lossNet C k) (carried (lossNet C k .limit) (r .latent .ahead)) =
       subst (λ (w : Verdict). Says (lossNet C k) (carried (lossNet C k .limit) (r .latent .ahead)) (has (r .group)) w) v (says k r l) in
-      carrying-record k bits (d .long) (d .bytes) e (after k r) (after-fits k r c)
+      carrying-record C f (s .held .posed) k bits (d .long) (d .bytes) e (after k r) (after-fits k r c)
       (λ j w. (
         λ h. let x = d .named j h in (x .other, λ q. x .changed (after-is k r j w (x .other) .0 q)),
         λ h. d .names j w (h .0) (λ q. h .1 (after-is k r j w (h .0) .1 q)),

@@ -7,7 +7,8 @@ use Rattle.layout.specs.Book.{Book, buses, count, injection, branch}
 use Rattle.layout.specs.Layout.{bookOf}
 use Rattle.verdict.specs.Case.{Case}
 
--- The limit is the same before and after an outage.
+-- Each limit is kVA times power factor divided by 1000, rounded down: the normal one of the first figure, the second of the second. A book of the old
+-- form has one figure, which serves as both.
 unfoldable pub caseOf : Book → Case
 caseOf b = record {
   buses = buses b;
@@ -17,7 +18,7 @@ caseOf b = record {
   served = λ k. eqb (branch b k .status) 1;
   injection = injection b;
   limit = λ k. limitOf (branch b k .kva .0) (b .factor);
-  loss-limit = λ k. limitOf (branch b k .kva .0) (b .factor);
+  loss-limit = λ k. limitOf (branch b k .kva2 .0) (b .factor);
 }
 
 abbrev pub caseIn : List ℕ → Case

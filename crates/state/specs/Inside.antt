@@ -2,7 +2,7 @@
 use mathlib.Core.Path.{_≡_}
 use mathlib.Core.Bool.{Bool, true, false, _&&_}
 use mathlib.Core.List.{List}
-use Prim.Native.Nat.{ℕ, _+_, _*_, _<_, _≤_}
+use Prim.Native.Nat.{ℕ, _+_, _*_, _^_, _<_, _≤_}
 use lib.IntN.{ℤ}
 use lib.ListN.{length, getD}
 use Rattle.rows.specs.Row.{nth}
@@ -21,11 +21,13 @@ use Rattle.layout.specs.Layout.{branchesIn}
 use Rattle.layout.specs.Check.{checkOf}
 use Rattle.verdict.specs.Case.{Case, Posed, on, Fits}
 use Rattle.verdict.specs.Record.{recordAt, TrueRecord}
+use Rattle.verdict.proofs.Normal.{normal}
 use Rattle.state.specs.Case.{caseIn}
 use Rattle.state.specs.declared.Plan.{Plan}
 use Rattle.state.specs.declared.Survey.{Survey}
 
--- The wires, the service and the limits of a case: a branch out of service has limit 0 in the row `live`.
+-- The wires, the service and the limits of a case, by which a loss is judged: a branch out of service has limit 0 in the row `live`. The rows of
+-- the normal limits are those of the case `normal C`.
 pub record Held (C : Case) (W : Wires) (served : List Bool) (live : List ℕ) : Type 0 where
   pub posed : Posed C
   pub linked : Linked W
@@ -65,20 +67,32 @@ pub record Planned (r : CaseRows) (q : Plan) : Type 0 where
   pub wiring : Wiring (r .buses) (r .branches) (r .first) (r .second) (q .wires)
   pub same-served : q .served ≡ r .served
   pub live-row : Live (r .branches) (r .served) (r .limit) (q .live)
+  pub brief-row : Live (r .branches) (r .served) (r .loss) (q .brief)
   pub same-gain : q .gain ≡ r .gain
   pub same-load : q .load ≡ r .load
 
--- `survey_lent`: an accepted book and a flow long enough for it; whether the flow fits, and the rows of the case with what the flow leaves.
+-- `survey_lent`: an accepted book and a flow long enough for it; whether the flow fits, and the rows of the case with what the flow leaves of the
+-- normal limits.
 pub record Surveyable (bs : List ℕ) (flows : ℕ) : Type 0 where
   pub book : checkOf bs ≡ Accepted
   pub flow-room : branchesIn bs ≤ flows
 
 pub record Surveyed (bs : List ℕ) (flow : List ℤ) (r : Survey) : Type 0 where
-  pub held : Held (caseIn bs) (r .wires) (r .served) (r .live)
+  pub held : Held (caseIn bs) (r .wires) (r .served) (r .brief)
   pub branches-are : r .wires .branches ≡ branchesIn bs
-  pub limit-is : (k : ℕ) → kwAt (r .limit) k ≡ caseIn bs .loss-limit k
-  pub fitting : r .fits ≡ true → State (caseIn bs) (on flow) (r .wires) (r .served) (r .live) (r .latent)
+  pub loss-is : (k : ℕ) → kwAt (r .loss) k ≡ caseIn bs .loss-limit k
+  pub fitting : r .fits ≡ true → State (normal (caseIn bs)) (on flow) (r .wires) (r .served) (r .live) (r .latent)
   pub unfit : r .fits ≡ false → Fits (caseIn bs) (caseIn bs .limit) (on flow) → ⊥
+
+-- `raise`: a row of what is latent under the limits in `live`, and the same row under those in `brief`, which are higher.
+pub record Raisable (n : ℕ) (live brief row : List ℕ) : Type 0 where
+  pub few : n ≤ 256
+  pub rising : (k : ℕ) → k < n → nth live k ≤ nth brief k
+  pub small : (k : ℕ) → k < n → nth row k + nth brief k < 2 ^ 32
+
+pub record Raised (n : ℕ) (live brief row r : List ℕ) : Type 0 where
+  pub raised : (k : ℕ) → k < n → nth r k + nth live k ≡ nth row k + nth brief k
+  pub long : length r ≡ 256
 
 -- `fill_flow`: the differences of the first n numbers of two rows are flows that fit, and there is room for them.
 pub record Fillable (n : ℕ) (live ahead : List ℕ) (room : ℕ) : Type 0 where

@@ -9,7 +9,7 @@ ghost use Rattle.rows.specs.Sum.{pick};
 ghost use Rattle.verdict.specs.Case.{Case};
 ghost use Rattle.verdict.specs.Record.{TrueRecord};
 ghost use Rattle.state.specs.Call.{lentCheck};
-ghost use Rattle.state.specs.Inside.{State, Poised, Changed, Live, Plannable, Planned, Surveyable, Surveyed, Fillable, Rewritten};
+ghost use Rattle.state.specs.Inside.{State, Poised, Changed, Live, Plannable, Planned, Surveyable, Surveyed, Raisable, Raised, Fillable, Rewritten};
 use answer::Outcome;
 use book::CaseRows;
 use quantity::Kw;
@@ -17,11 +17,12 @@ use reroute::Verdict;
 use search::Latent;
 use search::Wires;
 
-// The limits in `live` are 0 for a branch out of service.
+// The limits in `live` are the normal ones, and those in `brief` what a loss is judged by; both are 0 for a branch out of service.
 pub struct Plan {
     pub wires: Wires,
     pub served: [bool; 256],
     pub live: [u32; 256],
+    pub brief: [u32; 256],
     pub gain: [u32; 128],
     pub load: [u32; 128],
 }
@@ -68,25 +69,29 @@ pub fn prepare(rows: CaseRows) -> Plan
     let second = rows.second;
     let served = rows.served;
     let limit = rows.limit;
+    let loss = rows.loss;
     let gain = rows.gain;
     let load = rows.load;
     let wires = search::link(rows.buses, rows.branches, first, second);
     let live = live_limits(rows.branches, served, limit);
+    let brief = live_limits(rows.branches, served, loss);
     Plan {
         wires,
         served,
         live,
+        brief,
         gain,
         load,
     }
 }
 
-// A lent book and flow: its rows, whether the flow fits, and the latent capacities that a fitting flow leaves.
+// A lent book and flow: its rows, whether the flow fits, and the latent capacities that a fitting flow leaves of the normal limits.
 pub struct Survey {
     pub wires: Wires,
     pub served: [bool; 256],
-    pub limit: [Kw; 256],
+    pub loss: [Kw; 256],
     pub live: [u32; 256],
+    pub brief: [u32; 256],
     pub fits: bool,
     pub latent: Latent,
 }
@@ -96,11 +101,12 @@ pub fn survey_lent(book: &[u8], flow: &[i32]) -> Survey
     ensures { λ r. ⌜ Surveyed (now (book .entry)) (now (flow .entry)) r ⌝ }
 {
     let rows = book::rows_of(book);
-    let limit = rows.limit;
+    let loss = rows.loss;
     let plan = prepare(rows);
     let wires = plan.wires;
     let served = plan.served;
     let live = plan.live;
+    let brief = plan.brief;
     let gain = plan.gain;
     let load = plan.load;
     let lending = fit::test(flow, wires, live, gain, load);
@@ -109,11 +115,37 @@ pub fn survey_lent(book: &[u8], flow: &[i32]) -> Survey
     Survey {
         wires,
         served,
-        limit,
+        loss,
         live,
+        brief,
         fits,
         latent,
     }
+}
+
+fn raised_row(branches: usize, live: [u32; 256], brief: [u32; 256], row: [u32; 256]) -> [u32; 256]
+    requires { ⌜ Raisable branches live brief row ⌝ }
+    ensures { λ r. ⌜ Raised branches live brief row r ⌝ }
+{
+    let mut raised = row;
+    let mut k: usize = 0;
+    while k < branches {
+        raised[k] = row[k] + (brief[k] - live[k]);
+        k += 1;
+    }
+    raised
+}
+
+// What the same flow leaves of the limits that a loss is judged by: more, by as much as these are higher.
+pub fn raise(branches: usize, live: [u32; 256], brief: [u32; 256], latent: Latent) -> Latent
+    requires { ⌜ Raisable branches live brief (latent .ahead) × Raisable branches live brief (latent .back) ⌝ }
+    ensures { λ r. ⌜ Raised branches live brief (latent .ahead) (r .ahead) × Raised branches live brief (latent .back) (r .back) ⌝ }
+{
+    let before = latent.ahead;
+    let behind = latent.back;
+    let ahead = raised_row(branches, live, brief, before);
+    let back = raised_row(branches, live, brief, behind);
+    Latent { ahead, back }
 }
 
 // The signed flow that latent capacities leave.

@@ -1,11 +1,12 @@
 -- A fitting flow is a settled flow of the network, and the other way round; so no group has an excess.
-use mathlib.Core.Path.{_≡_, refl, ap}
+use mathlib.Core.Path.{_≡_, refl, sym, ap, _∙_}
 use mathlib.Core.Bool.{Bool, true, false, cond}
 use Prim.Native.Nat.{ℕ, _+_, _≤_, _<_}
 use native.Mathlib.Omega.{arith}
+use native.Mathlib.Decide.{ℕ-discrete}
 use borrow.Author.Tests.{eq-eqb, ne-eqb}
 use lib.Dec.{eqb}
-use lib.IntN.{ℤ, pos, _-ℤ_}
+use lib.IntN.{ℤ, pos, natAbs, _-ℤ_}
 use Rattle.rows.specs.Sum.{Group, pick}
 use Rattle.rows.proofs.Sum.{over-zero, over-same}
 use Rattle.quantity.specs.Signed.{posPart, negPart}
@@ -21,6 +22,31 @@ use Rattle.verdict.proofs.Plain.{netOf, flowOf, no-excess-plain}
 abbrev pub nothing : ℕ → ℕ
 nothing i = 0
 
+-- ---- The case with other statuses and other limits of a loss, which are not below the normal ones, can be judged as well.
+pub posed-as : (C : Case) (served : ℕ → Bool) (loss : ℕ → ℕ) → Posed C → ((k : ℕ) → k < C .branches → loss k ≤ 1000000)
+    → ((k : ℕ) → k < C .branches → C .limit k ≤ loss k) → Posed (record {
+      buses = C .buses;
+      branches = C .branches;
+      first = C .first;
+      second = C .second;
+      served = served;
+      injection = C .injection;
+      limit = C .limit;
+      loss-limit = loss;
+    })
+posed-as C served loss p rated rising = record {
+  some-bus = p .some-bus;
+  few-buses = p .few-buses;
+  few-branches = p .few-branches;
+  first-in = p .first-in;
+  second-in = p .second-in;
+  apart = p .apart;
+  sized = p .sized;
+  balanced = p .balanced;
+  rated = rated;
+  rising = rising;
+}
+
 -- ---- One status changed.
 module _ (C : Case) (b : ℕ) (s : Bool) where
   pub served-self : withStatus C b s .served b ≡ s
@@ -30,18 +56,7 @@ module _ (C : Case) (b : ℕ) (s : Bool) where
   served-other k n = rw (ne-eqb k b n) refl
 
   pub posed-status : Posed C → Posed (withStatus C b s)
-  posed-status p = record {
-    some-bus = p .some-bus;
-    few-buses = p .few-buses;
-    few-branches = p .few-branches;
-    first-in = p .first-in;
-    second-in = p .second-in;
-    apart = p .apart;
-    sized = p .sized;
-    balanced = p .balanced;
-    rated = p .rated;
-    rising = p .rising;
-  }
+  posed-status p = posed-as C (withStatus C b s .served) (C .loss-limit) p (p .rated) (p .rising)
 
 -- R(S) of the case without b is R(S) without b.
 pub ratings-out : (C : Case) (b : ℕ) (limit : ℕ → ℕ) (S : Group) → ratings (netOf (out C b) limit) S ≡ ratings (without (netOf C limit) b) S
@@ -106,3 +121,15 @@ fits-none C f p h = no-excess-plain C .1 (none-above C (C .limit) f p h)
 -- A flow that keeps to limits keeps to higher ones.
 pub fits-more : (C : Case) (low high : ℕ → ℕ) (f : ℕ → ℤ) → ((k : ℕ) → k < C .branches → low k ≤ high k) → Fits C low f → Fits C high f
 fits-more C low high f h w = record { still = w .still; within = λ k u e. omega (arith, w .within k u e, h k u); bus = w .bus }
+
+-- A flow that is 0 on a branch fits without that branch.
+pub fits-idle : (C : Case) (b : ℕ) (limit : ℕ → ℕ) (f : ℕ → ℤ) → Fits C limit f → f b ≡ pos 0 → Fits (out C b) limit f
+fits-idle C b limit f h z = record { still = λ k u o. still k u o (ℕ-discrete k b); within = λ k u o. within k u o (ℕ-discrete k b); bus = h .bus }
+  where
+    still : (k : ℕ) → k < C .branches → out C b .served k ≡ false → Dec (k ≡ b) → f k ≡ pos 0
+    still k u o (yes e) = rw e z
+    still k u o (no n) = h .still k u (sym (served-other C b false k n) ∙ o)
+
+    within : (k : ℕ) → k < C .branches → out C b .served k ≡ true → Dec (k ≡ b) → natAbs (f k) ≤ limit k
+    within k u o (yes e) = rw (e, z) (omega arith)
+    within k u o (no n) = h .within k u (sym (served-other C b false k n) ∙ o)

@@ -1,6 +1,7 @@
 pub mod Plain
 pub mod Fitting
 pub mod Loss
+pub mod Normal
 pub mod VerdictByCase
 pub mod Named
 pub mod Keep

@@ -16,7 +16,7 @@ pub record Case : Type 0 where
   pub second : ℕ → ℕ
   pub served : ℕ → Bool
   pub injection : ℕ → ℤ
-  -- what the base flow keeps to, and what a loss is judged by
+  -- the normal limit, to which the base flow keeps, and the second, by which a loss is judged
   pub limit : ℕ → ℕ
   pub loss-limit : ℕ → ℕ
 

@@ -20,7 +20,8 @@ oneEnd C k S = differ (S (C .first k)) (S (C .second k))
 abbrev pub R : Case → Group → ℕ
 R C S = over (C .branches) (λ k. C .served k && oneEnd C k S) (C .limit)
 
--- R(S) without branch b leaves out b. A loss is judged by its own limits, which are the same today.
+-- R(S) without branch b leaves out b, and counts what each other branch may carry after a loss: document 02, "A branch's verdict, shortage, group
+-- and reroute use the second".
 abbrev pub RWithout : Case → ℕ → Group → ℕ
 RWithout C b S = over (C .branches) (λ k. (C .served k && oneEnd C k S) && not (eqb k b)) (C .loss-limit)
 

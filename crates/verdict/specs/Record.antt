@@ -34,8 +34,8 @@ names rec = has (take 32 (drop 20 rec))
 abbrev pub Zero : List ℕ → ℕ → ℕ → Type 0
 Zero rec from to = (j : ℕ) → from ≤ j → j < to → nth rec j ≡ 0
 
--- The reroute of a carrying branch b belongs to one fitting flow of the case without b, and names exactly the branches other than b on which that flow
--- differs from the present flow f. It is empty if b's flow is 0.
+-- The reroute of a carrying branch b belongs to one flow that fits the case without b by the second limits, and names exactly the branches other
+-- than b on which that flow differs from the present flow f. It is empty if b's flow is 0.
 pub record Rerouted (C : Case) (f : ℕ → ℤ) (b : ℕ) (rec : List ℕ) : Type 0 where
   pub flow : ℕ → ℤ
   pub fits : Fits (out C b) (C .loss-limit) flow

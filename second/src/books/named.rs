@@ -1,8 +1,8 @@
-//! The named books and inputs whose lists are stored: document 01's two books in either form, marked examples, damaged
-//! and too long inputs.
+//! The named books and inputs whose lists are stored: document 01's two books in either form, marked examples, books whose
+//! two ratings differ, damaged and too long inputs.
 
 use crate::books::plain::{moved_up, plain, with_out, with_seconds};
-use crate::books::sources;
+use crate::books::{ratings, sources};
 use crate::definitions::book::{pack, Book};
 
 /// Document 01's triangle, with the rating of its branch 1-2.
@@ -20,7 +20,7 @@ pub fn second_and_feeder() -> Book {
     plain(&[60, 0, -40, -20], &[(0, 1, 40), (0, 2, 40), (1, 2, 25), (2, 3, 30), (1, 3, 30)])
 }
 
-/// The second book in the new form: branches 0-2 and 2-3 have a second kVA above the first.
+/// The second book in the new form: branches 0-2 and 2-3 have a second kVA above the first. So 0-1 and 1-2 carry.
 pub fn second_two() -> Book {
     with_seconds(second_book(25), &[(1, 60), (3, 1_000_000)])
 }
@@ -60,7 +60,7 @@ pub fn largest_new() -> Book {
 
 /// Names and bytes of every stored input; a request's own come after all that stood there before.
 pub fn inputs() -> Vec<(&'static str, Vec<u8>)> {
-    old_inputs().into_iter().chain(new_inputs()).collect()
+    old_inputs().into_iter().chain(new_inputs()).chain(rated_inputs()).collect()
 }
 
 fn new_inputs() -> Vec<(&'static str, Vec<u8>)> {
@@ -72,6 +72,10 @@ fn new_inputs() -> Vec<(&'static str, Vec<u8>)> {
         ("long-new-1", filled_to(&pack(&largest_new()), 2101)),
         ("triangle-below", pack(&triangle_below())),
     ]
+}
+
+fn rated_inputs() -> Vec<(&'static str, Vec<u8>)> {
+    vec![("triangle-two", pack(&ratings::triangle_two())), ("ring-two", pack(&ratings::ring_two()))]
 }
 
 fn old_inputs() -> Vec<(&'static str, Vec<u8>)> {

@@ -11,6 +11,12 @@ pub fn plain(injections: &[i64], branches: &[(usize, usize, u32)]) -> Book {
     Book { form: Form::Old, factor: 1000, injections: injections.to_vec(), branches: branches.iter().map(branch).collect() }
 }
 
+/// A new book with every branch in service at power factor 1000, both its ratings given.
+pub fn two_rated(injections: &[i64], branches: &[(usize, usize, u32, u32)]) -> Book {
+    let branch = |&(first, second, kva, second_kva): &_| Branch { first, second, kva, second_kva, served: true };
+    Book { form: Form::New, factor: 1000, injections: injections.to_vec(), branches: branches.iter().map(branch).collect() }
+}
+
 /// The same book with one branch out of service.
 pub fn with_out(mut book: Book, branch: usize) -> Book {
     book.branches[branch].served = false;

@@ -5,33 +5,64 @@ use crate::books::random_forms;
 use crate::definitions::book::Book;
 use crate::definitions::branch::Branch;
 use crate::definitions::form::{Form, LARGEST};
-use crate::definitions::network::limit_in_kw;
+use crate::definitions::limits::limit_in_kw;
 
 /// A book with these counts whose base excess is 0.
 pub fn served(random: &mut Random, buses: usize, count: usize) -> Book {
     served_with_flow(random, buses, count).0
 }
 
-/// A book and a random flow that fits it: the injections are what the flow leaves at each bus.
+/// A book and a random flow that fits it.
 pub fn served_with_flow(random: &mut Random, buses: usize, count: usize) -> (Book, Vec<i64>) {
-    let count = if buses == 1 { 0 } else { count };
-    let factor = *random.pick(&[1000, 1000, 999, 950, 500, 1 + random.0 as u32 % 1000]);
-    let largest = *random.pick(&[1, 3, 20, 1_000, 100_000, LARGEST]);
-    let zeros = *random.pick(&[2, 8, 1000]);
-    let outs = *random.pick(&[4, 20, 10_000]);
-    let islands = *random.pick(&[1, 1, 1, 2, 3]);
-    let shape = random.below(5);
-    let branches: Vec<Branch> = (0..count)
-        .map(|number| {
-            let (first, second) = ends(random, buses, number, shape, islands);
-            let kva = if random.once_in(zeros) { random.below(2) as u32 } else { random.between(largest / 2, largest) as u32 };
-            Branch::rated(first, second, kva, !random.once_in(outs))
-        })
-        .collect();
-    let (injections, flow) = injections(random, buses, &branches, factor);
-    let mut book = Book { form: Form::Old, factor, injections, branches };
+    let plan = Plan::any(random);
+    let (mut book, flow) = planned(random, &plan, buses, count);
     random_forms::either(random, &mut book);
     (book, flow)
+}
+
+/// What a random book is made by.
+pub struct Plan {
+    pub factor: u32,
+    /// Ratings are from half of this up to it, in kVA.
+    pub largest: i64,
+    /// One branch in so many has a rating of 0 or 1.
+    pub zeros: usize,
+    /// One branch in so many is out of service.
+    pub outs: usize,
+    pub islands: usize,
+    pub shape: usize,
+    /// The most of its limit that a branch carries, in hundredths.
+    pub share: i64,
+}
+
+impl Plan {
+    fn any(random: &mut Random) -> Plan {
+        Plan {
+            factor: *random.pick(&[1000, 1000, 999, 950, 500, 1 + random.0 as u32 % 1000]),
+            largest: *random.pick(&[1, 3, 20, 1_000, 100_000, LARGEST]),
+            zeros: *random.pick(&[2, 8, 1000]),
+            outs: *random.pick(&[4, 20, 10_000]),
+            islands: *random.pick(&[1, 1, 1, 2, 3]),
+            shape: random.below(5),
+            share: *random.pick(&[10, 30, 60, 100]),
+        }
+    }
+}
+
+/// An old book by a plan, and a random flow that fits it: the injections are what the flow leaves at each bus.
+pub fn planned(random: &mut Random, plan: &Plan, buses: usize, count: usize) -> (Book, Vec<i64>) {
+    let count = if buses == 1 { 0 } else { count };
+    let largest = plan.largest;
+    let branches: Vec<Branch> = (0..count)
+        .map(|number| {
+            let (first, second) = ends(random, buses, number, plan.shape, plan.islands);
+            let zero = random.once_in(plan.zeros);
+            let kva = if zero { random.below(2) as u32 } else { random.between(largest / 2, largest) as u32 };
+            Branch::rated(first, second, kva, !random.once_in(plan.outs))
+        })
+        .collect();
+    let (injections, flow) = injections(random, buses, &branches, plan);
+    (Book { form: Form::Old, factor: plan.factor, injections, branches }, flow)
 }
 
 /// Two different buses of the same island, if the island has two.
@@ -52,12 +83,11 @@ fn ends(random: &mut Random, buses: usize, number: usize, shape: usize, islands:
     (one * islands + island, other * islands + island)
 }
 
-fn injections(random: &mut Random, buses: usize, branches: &[Branch], factor: u32) -> (Vec<i64>, Vec<i64>) {
-    let share = *random.pick(&[10, 30, 60, 100]);
+fn injections(random: &mut Random, buses: usize, branches: &[Branch], plan: &Plan) -> (Vec<i64>, Vec<i64>) {
     let mut flow: Vec<i64> = branches
         .iter()
         .map(|branch| {
-            let most = (limit_in_kw(branch.kva, factor) * share + 99) / 100;
+            let most = (limit_in_kw(branch.kva, plan.factor) * plan.share + 99) / 100;
             if branch.served {
                 random.between(-most, most)
             } else {

@@ -5,11 +5,13 @@
 //! the smallest source side of a smallest cut is the smallest group. A bus is forced into or out of the group by
 //! joining it to the source or the sink without limit.
 //!
-//! `verdict_afresh` does so from nothing, for both ways to part the two ends. `verdict` begins with the flow that the
-//! base excess left, which a largest flow may: without the branch, what it carried is turned back to the source at
-//! one end and missed by the sink at the other. Where the branch carried nothing towards the outside, the sum of all
-//! surplus is already sent, so that no excess above 0 is left that way.
+//! The base excess is by the normal limits, a verdict by the second ones. `verdict_afresh` finds it from nothing, for both
+//! ways to part the two ends. `verdict` begins with the flow that the base excess left, which is within the second limits
+//! too, and a largest flow may begin with any: without the branch, what it carried is turned back to the source at one end
+//! and missed by the sink at the other. Where the branch carried nothing towards the outside, the sum of all surplus is
+//! already sent, so that no excess above 0 is left that way.
 
+use crate::definitions::limits::Limits;
 use crate::definitions::maxflow::{Graph, PLENTY};
 use crate::definitions::network::{Excess, Group, Line, Network, Verdict};
 
@@ -17,7 +19,9 @@ use crate::definitions::network::{Excess, Group, Line, Network, Verdict};
 pub struct Cutter<'a> {
     pub network: &'a Network,
     graph: Graph,
+    /// The rooms by the normal limits, and what the second ones add to each.
     rooms: Vec<i64>,
+    added: Vec<i64>,
     /// The rooms after the base excess was found; none before that.
     after_base: Option<Vec<i64>>,
     from_source: Vec<usize>,
@@ -35,10 +39,16 @@ impl Cutter<'_> {
             from_source.push(graph.join(source, bus, kw.max(0), 0));
             to_sink.push(graph.join(bus, sink, (-kw).max(0), 0));
         }
-        let limit = |line: &Line| if line.served { line.limit } else { 0 };
-        let arcs = network.lines.iter().map(|line| graph.join(line.first, line.second, limit(line), limit(line))).collect();
+        let limit = |line: &Line, limits| if line.served { line.limit(limits) } else { 0 };
+        let arc = |line: &Line| graph.join(line.first, line.second, limit(line, Limits::Normal), limit(line, Limits::Normal));
+        let arcs: Vec<usize> = network.lines.iter().map(arc).collect();
         let rooms = graph.rooms();
-        Cutter { network, graph, rooms, after_base: None, from_source, to_sink, arcs }
+        let mut added = vec![0; rooms.len()];
+        for (&arc, line) in arcs.iter().zip(&network.lines) {
+            added[arc] = limit(line, Limits::Second) - limit(line, Limits::Normal);
+            added[arc ^ 1] = added[arc];
+        }
+        Cutter { network, graph, rooms, added, after_base: None, from_source, to_sink, arcs }
     }
 
     fn source(&self) -> usize {
@@ -69,6 +79,11 @@ impl Cutter<'_> {
         excess
     }
 
+    /// These rooms, with what the second limits add to each.
+    fn raised(&self, rooms: &[i64]) -> Vec<i64> {
+        rooms.iter().zip(&self.added).map(|(room, more)| room + more).collect()
+    }
+
     /// Takes a branch out of the graph and forces one end into the group, the other out of it.
     fn part(&mut self, branch: usize, inside: usize, outside: usize) {
         self.graph.set_room(self.arcs[branch], 0);
@@ -77,9 +92,11 @@ impl Cutter<'_> {
         self.graph.set_room(self.to_sink[outside], PLENTY);
     }
 
-    /// The largest excess without `branch` over the groups that hold `inside` and not `outside`, its two ends.
+    /// The largest excess without `branch`, by the second limits, over the groups that hold `inside` and not `outside`, its
+    /// two ends.
     fn parted(&mut self, branch: usize, inside: usize, outside: usize) -> Excess {
-        self.graph.set_rooms(&self.rooms);
+        let raised = self.raised(&self.rooms);
+        self.graph.set_rooms(&raised);
         self.part(branch, inside, outside);
         self.excess()
     }
@@ -114,7 +131,8 @@ impl Cutter<'_> {
         let after = self.after_base.as_ref().expect("the base excess was found");
         let carried = self.rooms[self.arcs[branch]] - after[self.arcs[branch]];
         let (inside, outside) = if carried >= 0 { (line.first, line.second) } else { (line.second, line.first) };
-        self.graph.set_rooms(after);
+        let raised = self.raised(after);
+        self.graph.set_rooms(&raised);
         self.part(branch, inside, outside);
         let lost = carried.abs();
         let placed = self.graph.largest(self.source(), self.sink(), lost);

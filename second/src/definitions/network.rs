@@ -1,7 +1,8 @@
-//! What a book means: limits in kW, which flow fits, and the words of a verdict.
+//! What a book means: branches with two limits in kW, which flow fits, and the words of a verdict.
 
 use crate::definitions::book::Book;
 use crate::definitions::branch::Branch;
+use crate::definitions::limits::{limit_in_kw, Limits};
 
 /// A group of buses: bus k is bit k.
 pub type Group = u128;
@@ -10,8 +11,18 @@ pub type Group = u128;
 pub struct Line {
     pub first: usize,
     pub second: usize,
-    pub limit: i64,
+    pub normal_limit: i64,
+    pub second_limit: i64,
     pub served: bool,
+}
+
+impl Line {
+    pub fn limit(&self, which: Limits) -> i64 {
+        match which {
+            Limits::Normal => self.normal_limit,
+            Limits::Second => self.second_limit,
+        }
+    }
 }
 
 #[derive(Clone, Debug)]
@@ -34,11 +45,6 @@ pub enum Verdict {
     Short(Excess),
 }
 
-/// kVA times power factor divided by 1000, rounded down: the one step from kVA to kW.
-pub fn limit_in_kw(kva: u32, factor: u32) -> i64 {
-    kva as i64 * factor as i64 / 1000
-}
-
 pub fn members(group: Group) -> Vec<usize> {
     (0..128).filter(|&bus| group >> bus & 1 == 1).collect()
 }
@@ -48,10 +54,15 @@ pub fn holds(group: Group, bus: usize) -> bool {
 }
 
 impl Network {
-    /// The network of a book of either form. Until W2 lands the first rating alone makes the limit.
+    /// The network of a book of either form; in an old one the two limits of a branch are equal.
     pub fn of(book: &Book) -> Network {
-        let line =
-            |b: &Branch| Line { first: b.first, second: b.second, limit: limit_in_kw(b.kva, book.factor), served: b.served };
+        let line = |branch: &Branch| Line {
+            first: branch.first,
+            second: branch.second,
+            normal_limit: limit_in_kw(branch.kva, book.factor),
+            second_limit: limit_in_kw(branch.second_kva, book.factor),
+            served: branch.served,
+        };
         Network { injections: book.injections.clone(), lines: book.branches.iter().map(line).collect() }
     }
 
@@ -73,10 +84,15 @@ impl Network {
 
     /// Whether a flow (a number a branch) fits.
     pub fn fits(&self, flow: &[i64]) -> bool {
+        self.fits_within(Limits::Normal, flow)
+    }
+
+    /// Whether it would fit if these limits were the normal ones.
+    pub fn fits_within(&self, limits: Limits, flow: &[i64]) -> bool {
         assert_eq!(flow.len(), self.lines.len());
         let mut left = self.injections.clone();
         for (line, &kw) in self.lines.iter().zip(flow) {
-            let within = if line.served { kw.abs() <= line.limit } else { kw == 0 };
+            let within = if line.served { kw.abs() <= line.limit(limits) } else { kw == 0 };
             if !within {
                 return false;
             }

@@ -2,12 +2,14 @@
 
 use crate::definitions::answer::Answer;
 use crate::definitions::cuts;
+use crate::definitions::limits::Limits;
 use crate::definitions::network::Network;
 use crate::definitions::record;
 use crate::definitions::reroutes;
 use crate::definitions::switching::{self, Judged, Lent, Way};
 
-/// The network before an accepted call; else the refusal due: 1 to 11 in order, then 12.
+/// The network before an accepted call; else the refusal due: 1 to 11 in order, then 12 by the changed book's base excess,
+/// whatever the record shows: this is by the normal limits, and the record by the second.
 pub fn allowed(lent: &Lent, branch: usize) -> Result<Network, Answer> {
     let network = switching::fitting(Way::Out, lent, branch)?;
     let excess = cuts::base_excess(&network.without(branch));
@@ -46,7 +48,7 @@ fn judge_flow(network: &Network, lent: &Lent, branch: usize, after: &[i64], judg
         return;
     }
     let named = record::named(record::stretch(lent.table, branch), after.len());
-    judged.fell_back = reroutes::confined(network, before, branch, &named).is_none();
+    judged.fell_back = reroutes::confined(network, Limits::Normal, before, branch, &named).is_none();
     let strays: Vec<usize> = differs.into_iter().filter(|k| *k != branch && !named.contains(k)).collect();
     if !judged.fell_back && !strays.is_empty() {
         judged.faults.push(format!("the recorded reroute {named:?} of branch {branch} would do, yet {strays:?} changed"));
@@ -70,9 +72,8 @@ pub fn own_result(network: &Network, lent: &Lent, branch: usize) -> (Vec<i64>, V
     let before = &lent.flow[..count];
     let named = record::named(record::stretch(lent.table, branch), count);
     let all: Vec<usize> = (0..count).collect();
-    let after = reroutes::confined(network, before, branch, &named)
-        .or_else(|| reroutes::confined(network, before, branch, &all))
-        .expect("the changed book has a fitting flow");
+    let confined = |named: &[usize]| reroutes::confined(network, Limits::Normal, before, branch, named);
+    let after = confined(&named).or_else(|| confined(&all)).expect("the changed book has a fitting flow");
     let listed = shortlist(network, lent.table, branch, before, &after);
     let table = switching::own_table(&network.without(branch), lent, &after, &listed);
     (after, table)

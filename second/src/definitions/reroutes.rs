@@ -2,10 +2,10 @@
 //!
 //! `confined`: the change d = g - f is 0 outside the lost branch and the named ones and takes f off the lost
 //! branch. So |f| must be sent from the end where the flow entered to the other, over the named branches, within
-//! their latent capacities: one largest flow decides it, and it is whole since capacities are.
+//! their latent capacities by the limits asked for: one largest flow decides it, and it is whole since capacities are.
 //!
-//! `exactly`: besides, d must not be 0 on any named branch. Start from a confined flow and mend each named branch
-//! that still has its old flow by a round trip through it over named branches:
+//! `exactly`, by the second limits: besides, d must not be 0 on any named branch. Start from a confined flow and mend
+//! each named branch that still has its old flow by a round trip through it over named branches:
 //!  - if no round trip has room in either direction, every confined flow has the old value there (the difference
 //!    of two whole flows is a sum of round trips that each have room): the answer is a sure no;
 //!  - if one has room, move t kW along it, with t from 1 on such that no other branch comes back to its old value
@@ -15,6 +15,7 @@
 //!    tried by halves, only for branches that a found flow left at 0. The number of tries is bounded; beyond it
 //!    the answer is `Undecided`, which a judge counts and never takes for a fault.
 
+use crate::definitions::limits::Limits;
 use crate::definitions::maxflow::{Graph, PLENTY};
 use crate::definitions::network::Network;
 use std::collections::VecDeque;
@@ -28,14 +29,16 @@ pub enum Exactly {
     Undecided,
 }
 
-/// A fitting flow of the network without `branch` that differs from the fitting `flow` only there and on named branches.
-pub fn confined(network: &Network, flow: &[i64], branch: usize, named: &[usize]) -> Option<Vec<i64>> {
+/// A flow of the network without `branch` that fits by these limits, as `flow` does, and differs from it only there and on
+/// named branches.
+pub fn confined(network: &Network, limits: Limits, flow: &[i64], branch: usize, named: &[usize]) -> Option<Vec<i64>> {
+    let limit = |number: usize| network.lines[number].limit(limits);
     let mut graph = Graph::new(network.buses());
     let usable = |&&number: &&usize| number != branch && network.lines[number].served;
     let mut arcs = Vec::new();
     for &number in named.iter().filter(usable) {
         let line = &network.lines[number];
-        let arc = graph.join(line.first, line.second, line.limit - flow[number], line.limit + flow[number]);
+        let arc = graph.join(line.first, line.second, limit(number) - flow[number], limit(number) + flow[number]);
         arcs.push((number, arc));
     }
     let line = &network.lines[branch];
@@ -47,18 +50,18 @@ pub fn confined(network: &Network, flow: &[i64], branch: usize, named: &[usize])
     let mut changed = flow.to_vec();
     changed[branch] = 0;
     for (number, arc) in arcs {
-        changed[number] = network.lines[number].limit - graph.room(arc);
+        changed[number] = limit(number) - graph.room(arc);
     }
     Some(changed)
 }
 
-/// Whether some fitting flow of the network without `branch` differs from the fitting `flow` exactly on the named
-/// branches, `branch` itself aside.
+/// Whether some flow of the network without `branch`, within the second limits, differs from the fitting `flow` exactly on
+/// the named branches, `branch` itself aside.
 pub fn exactly(network: &Network, flow: &[i64], branch: usize, named: &[usize]) -> Exactly {
     if named.iter().any(|&number| number == branch || !network.lines[number].served) {
         return Exactly::No;
     }
-    let Some(mut changed) = confined(network, flow, branch, named) else {
+    let Some(mut changed) = confined(network, Limits::Second, flow, branch, named) else {
         return Exactly::No;
     };
     while let Some(&same) = named.iter().find(|&&number| changed[number] == flow[number]) {
@@ -85,7 +88,7 @@ fn mend(network: &Network, flow: &[i64], changed: &mut [i64], named: &[usize], s
             continue;
         };
         room_somewhere = true;
-        let most = trip.iter().map(|&(number, sign)| network.lines[number].limit - sign * changed[number]).min().unwrap();
+        let most = trip.iter().map(|&(number, sign)| room(network, changed, number, sign)).min().unwrap();
         let serves = |t: &i64| trip.iter().all(|&(number, sign)| changed[number] + sign * t != flow[number]);
         if let Some(t) = (1..=most.min(trip.len() as i64 + 1)).find(serves) {
             trip.iter().for_each(|&(number, sign)| changed[number] += sign * t);
@@ -99,6 +102,11 @@ fn mend(network: &Network, flow: &[i64], changed: &mut [i64], named: &[usize], s
     }
 }
 
+/// What a branch could carry more in a direction, by its second limit.
+fn room(network: &Network, changed: &[i64], number: usize, sign: i64) -> i64 {
+    network.lines[number].limit(Limits::Second) - sign * changed[number]
+}
+
 /// A round trip over named branches with room, through `same` in the given direction: branches and signs.
 fn round_trip(network: &Network, changed: &[i64], named: &[usize], same: usize, ahead: bool) -> Option<Vec<(usize, i64)>> {
     let ends = |number: usize, sign: i64| {
@@ -109,7 +117,7 @@ fn round_trip(network: &Network, changed: &[i64], named: &[usize], same: usize, 
             (line.second, line.first)
         }
     };
-    let room = |number: usize, sign: i64| network.lines[number].limit - sign * changed[number];
+    let room = |number: usize, sign: i64| room(network, changed, number, sign);
     let sign = if ahead { 1 } else { -1 };
     if room(same, sign) <= 0 {
         return None;
@@ -138,7 +146,8 @@ fn round_trip(network: &Network, changed: &[i64], named: &[usize], same: usize, 
 
 /// The exact decision: signs of change tried by halves, each try decided by a largest flow.
 fn by_signs(network: &Network, flow: &[i64], branch: usize, named: &[usize]) -> Exactly {
-    let whole = |&number: &usize| (-network.lines[number].limit - flow[number], network.lines[number].limit - flow[number]);
+    let limit = |number: usize| network.lines[number].limit(Limits::Second);
+    let whole = |&number: &usize| (-limit(number) - flow[number], limit(number) - flow[number]);
     let mut open: Vec<Vec<(i64, i64)>> = vec![named.iter().map(whole).collect()];
     let mut tries = 0;
     while let Some(bounds) = open.pop() {

@@ -3,6 +3,7 @@
 use crate::definitions::answer::Answer;
 use crate::definitions::book::{self, Book};
 use crate::definitions::cuts::{self, Cutter};
+use crate::definitions::limits::Limits;
 use crate::definitions::network::{Network, Verdict};
 use crate::definitions::record;
 use crate::definitions::reroutes::{self, Exactly};
@@ -47,7 +48,7 @@ pub fn record_holds(cutter: &mut Cutter, flow: &[i64], branch: usize, bytes: &[u
     match reroutes::exactly(network, flow, branch, &named) {
         Exactly::Yes(_) => Ok(true),
         Exactly::Undecided => Ok(false),
-        Exactly::No => Err(format!("record {branch}: no fitting flow without it differs exactly on {named:?}")),
+        Exactly::No => Err(format!("record {branch}: no flow without it within the second limits differs exactly on {named:?}")),
     }
 }
 
@@ -66,7 +67,7 @@ pub fn own_record(cutter: &mut Cutter, flow: &[i64], branch: usize) -> [u8; reco
         return record::bytes(verdict, &[]);
     }
     let all: Vec<usize> = (0..flow.len()).collect();
-    let without = reroutes::confined(network, flow, branch, &all).expect("a carrying branch has a reroute");
+    let without = reroutes::confined(network, Limits::Second, flow, branch, &all).expect("a carrying branch has a reroute");
     let differs = all.into_iter().filter(|&other| other != branch && without[other] != flow[other]);
     record::bytes(verdict, &differs.collect::<Vec<_>>())
 }

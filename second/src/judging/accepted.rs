@@ -1,5 +1,6 @@
 //! What an accepted screen, outage or return left: judged by the definitions, and counted by kind.
 
+use crate::definitions::answer::Answer;
 use crate::definitions::comeback;
 use crate::definitions::cuts::Cutter;
 use crate::definitions::network::Network;
@@ -7,6 +8,7 @@ use crate::definitions::outage;
 use crate::definitions::record::{self, SIZE};
 use crate::definitions::screen;
 use crate::definitions::switching::{Judged, Way};
+use crate::judging::ratings;
 use crate::judging::run::{self, Run};
 use crate::judging::tally::Tally;
 use crate::trial::spaces::Spaces;
@@ -56,7 +58,7 @@ impl Call<'_> {
         }
         let changed = network.with_status(*branch, way.serves());
         match way {
-            Way::Out => self.count_out(network, *branch, &judged),
+            Way::Out => self.count_out(network, *branch, &judged)?,
             Way::Back => self.count_back(network, &changed, *branch, &judged),
         }
         if self.run.table_true {
@@ -92,17 +94,25 @@ impl Call<'_> {
         Ok(())
     }
 
-    fn count_out(&mut self, network: &Network, branch: usize, judged: &Judged) {
+    fn count_out(&mut self, network: &Network, branch: usize, judged: &Judged) -> Result<(), String> {
         let count = network.lines.len();
         let own = record::stretch(&self.before.table, branch);
         let untrue = !self.run.holds(network, self.before);
+        if !untrue {
+            ratings::agrees(network, own, Answer::ACCEPTED)?;
+            ratings::promised(network, judged.fell_back)?;
+        }
+        let (moved, differ) = (self.before.flow[branch] != 0, ratings::limits_differ(network));
         let beyond = (count..256).any(|k| record::names(own, k));
         self.tally.accepted("out", network);
         self.tally.kinds(
             "out",
             &[
-                ("that moved flow", self.before.flow[branch] != 0),
+                ("that moved flow", moved),
                 ("that fell back to all branches", judged.fell_back),
+                ("where limits differ", differ),
+                ("where limits differ, that moved flow within the recorded reroute", differ && moved && !judged.fell_back),
+                ("from a true table, that fell back to all branches", !untrue && judged.fell_back),
                 ("from an untrue table", untrue),
                 ("from an untrue table, its record names the branch itself", untrue && record::names(own, branch)),
                 ("from an untrue table, its record names bits beyond the count", untrue && beyond),
@@ -111,6 +121,7 @@ impl Call<'_> {
             ],
         );
         self.tally.records("out", "on the shortlist", judged);
+        Ok(())
     }
 
     fn count_back(&mut self, network: &Network, changed: &Network, branch: usize, judged: &Judged) {

@@ -119,7 +119,7 @@ pub const FAULTS: &[(&str, Plant)] = &[
     ("a refused write that writes a book byte", |done| refused_leaves(done, "write", book_byte)),
     ("a refused write that writes a flow number", |done| refused_leaves(done, "write", flow_number)),
     ("a refused write that writes a table byte", |done| refused_leaves(done, "write", table_byte)),
-    ("a refused write that sets the length", |done| refused_leaves(done, "write", |left| left.length += 1)),
+    ("a refused write that sets the length", |done| refused_leaves(done, "write", other_length)),
     ("a refused write that writes an injection", |done| refused_leaves(done, "write", |left| left.injections[100] ^= 1)),
     ("a refused write that writes a branch number", |done| refused_leaves(done, "write", |left| left.numbers[1_000] ^= 1)),
     ("a refused reading of meters that writes a book byte", |done| refused_leaves(done, "meters", book_byte)),

@@ -4,9 +4,6 @@ use crate::definitions::bits;
 use crate::definitions::book::{self, pack, Book};
 use crate::definitions::branch::{Branch, Wrong};
 use crate::definitions::form::{Form, LAYOUT};
-use crate::definitions::network::Network;
-use crate::definitions::record::SIZE;
-use crate::definitions::screen;
 use crate::definitions::switching::Way;
 use crate::definitions::tables;
 use crate::judging::faults::Plant;
@@ -20,7 +17,6 @@ use crate::trial::stream::{Command, BOOK};
 pub const FORM_FAULTS: &[(&str, Plant)] = &[
     ("an outage that clears the bit where an old book has it", |done| status_at_old_place(done, Way::Out)),
     ("a return that sets the bit where an old book has it", |done| status_at_old_place(done, Way::Back)),
-    ("a screen by the second ratings", screened_by_seconds),
     ("a new book refused with 3", |done| instead(done, new_lent, "3")),
     ("a new book refused with 1", |done| instead(done, new_lent, "1")),
     ("a second kVA below the first accepted", |done| wrong_accepted(done, Wrong::SecondBelowFirst)),
@@ -53,7 +49,7 @@ pub const FORM_FAULTS: &[(&str, Plant)] = &[
     }),
     ("a move that sets the length", |done| {
         move_accepted(done).is_some() && done.next == Some(&Command::Dump) && {
-            done.after.length ^= 1;
+            other_length(done.after);
             true
         }
     }),
@@ -111,10 +107,6 @@ fn with_layout(bytes: &[u8], new: bool) -> Vec<u8> {
     bits::with(bytes, LAYOUT, new)
 }
 
-fn call_accepted(done: &Done) -> bool {
-    done.command.answer_in(done.lines) == Some(0)
-}
-
 /// Whether a new book was lent to an accepted call that reads one.
 fn new_lent(done: &Done) -> bool {
     let reads = !matches!(done.command, Command::Write { .. } | Command::Meters { .. });
@@ -130,37 +122,6 @@ fn status_at_old_place(done: &mut Done, way: Way) -> bool {
             true
         }
     })
-}
-
-/// Screens by the second ratings, where that changes a verdict, a shortage or a group; the flow fits them too.
-fn screened_by_seconds(done: &mut Done) -> bool {
-    if !matches!(done.command, Command::Screen { .. }) || !call_accepted(done) {
-        return false;
-    }
-    let book = book::unpack(done.before.bytes()).expect("an accepted screen's book");
-    let network = Network::of(&turned(&book));
-    let table = screen::own_table(&network, &done.after.flow[..network.lines.len()]);
-    let verdicts = |table: &[u8]| table.chunks(SIZE).map(|record| record[..20].to_vec()).collect::<Vec<_>>();
-    let differs = verdicts(&table) != verdicts(&done.after.table[..table.len()]);
-    if differs {
-        done.after.table[..table.len()].copy_from_slice(&table);
-    }
-    differs
-}
-
-/// Refuses a call where `wanted`, with this number, and leaves and prints all as it was.
-fn instead(done: &mut Done, wanted: impl Fn(&Done) -> bool, number: &str) -> bool {
-    if !wanted(done) {
-        return false;
-    }
-    *done.after = done.before.clone();
-    if matches!(done.command, Command::Read { .. } | Command::Move { .. }) {
-        // A book of no bytes is refused, so that what is printed is what was lent.
-        let mut lent = done.before.clone();
-        lent.length = 0;
-        *done.lines = lent.run(done.command).1;
-    }
-    answer_words(done, |words| words[1] = number.into()) || number == "1"
 }
 
 fn wrong_accepted(done: &mut Done, wrong: Wrong) -> bool {

@@ -15,6 +15,7 @@ use crate::definitions::switching::Way;
 use crate::judging::accepted::{Call, Switch};
 use crate::judging::forms;
 use crate::judging::moved;
+use crate::judging::ratings;
 use crate::judging::run::Run;
 use crate::judging::tally::Tally;
 use crate::trial::spaces::{from_hex, Spaces};
@@ -115,6 +116,14 @@ impl Judge<'_> {
         self.due(&format!("{} {answer}", word(command)))?;
         if !answer.accepted() {
             self.refused(command, answer);
+            match (command, answer.number) {
+                (Command::Screen { .. }, 12) => ratings::screen_refused_12(&mut self.tally, &self.spaces),
+                (Command::Switch { way, .. }, 11) => ratings::refused_11(&mut self.tally, &self.spaces, *way),
+                (Command::Switch { branch, .. }, 12) => {
+                    ratings::refused_12(&mut self.tally, &self.run, &self.spaces, *branch, answer)?
+                }
+                _ => {}
+            }
         }
         self.pending = accepted.ok();
         Ok(())

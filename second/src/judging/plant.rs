@@ -3,6 +3,7 @@
 use crate::definitions::book;
 use crate::definitions::comeback;
 use crate::definitions::cuts::{self, Cutter};
+use crate::definitions::limits::Limits;
 use crate::definitions::network::{Excess, Network, Verdict};
 use crate::definitions::outage;
 use crate::definitions::record::{self, SIZE};
@@ -11,7 +12,7 @@ use crate::definitions::screen;
 use crate::definitions::switching::Way;
 use crate::trial::reference::Done;
 use crate::trial::spaces::Spaces;
-use crate::trial::stream::Command;
+use crate::trial::stream::{Command, BOOK};
 
 pub fn all_buses(network: &Network) -> u128 {
     (0..network.buses()).fold(0, |group, bus| group | 1 << bus)
@@ -148,7 +149,7 @@ pub fn screened_afresh(done: &mut Done) -> bool {
         let strays = (0..count).any(|k| k != branch && fresh[k] != before[k] && (before[branch] == 0 || !named.contains(&k)));
         let mut with = network.clone();
         with.lines[branch].served = true;
-        if !strays || reroutes::confined(&with, before, branch, &named).is_none() {
+        if !strays || reroutes::confined(&with, Limits::Normal, before, branch, &named).is_none() {
             return false;
         }
         left_afresh(network, &fresh, done);
@@ -193,6 +194,26 @@ pub fn shortlisted_kept(done: &mut Done, wanted: impl Fn(usize, &[u8], &[bool]) 
     })
 }
 
+/// Whether the command is a call that was accepted.
+pub fn call_accepted(done: &Done) -> bool {
+    done.command.answer_in(done.lines) == Some(0)
+}
+
+/// Refuses a call where `wanted`, with this number, and leaves and prints all as it was.
+pub fn instead(done: &mut Done, wanted: impl Fn(&Done) -> bool, number: &str) -> bool {
+    if !wanted(done) {
+        return false;
+    }
+    *done.after = done.before.clone();
+    if matches!(done.command, Command::Read { .. } | Command::Move { .. }) {
+        // A book of no bytes is refused, so that what is printed is what was lent.
+        let mut lent = done.before.clone();
+        lent.length = 0;
+        *done.lines = lent.run(done.command).1;
+    }
+    answer_words(done, |words| words[1] = number.into()) || number == "1"
+}
+
 /// Whether the command is this call, refused.
 pub fn refused(done: &Done, call: &str) -> bool {
     done.command.call() == Some(call) && done.command.answer_in(done.lines).is_some_and(|number| number != 0)
@@ -215,6 +236,11 @@ pub fn refused_prints(done: &mut Done, call: &str, line: &str) -> bool {
 /// A byte of the book space, a flow number and a table byte, each beyond most counts, written otherwise.
 pub fn book_byte(left: &mut Spaces) {
     left.book[30] ^= 1;
+}
+
+/// The book's length, changed within its space.
+pub fn other_length(left: &mut Spaces) {
+    left.length = (left.length + 1) % BOOK;
 }
 
 pub fn flow_number(left: &mut Spaces) {

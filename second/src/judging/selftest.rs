@@ -2,6 +2,7 @@
 
 use crate::judging::faults::{Plant, FAULTS};
 use crate::judging::faults_forms::FORM_FAULTS;
+use crate::judging::faults_ratings::RATING_FAULTS;
 use crate::judging::faults_returns::RETURN_FAULTS;
 use crate::judging::judge::judge;
 use crate::streams::make;
@@ -34,7 +35,7 @@ pub fn selftest() -> bool {
         }
     }
     println!("{} good outputs taken", streams.len());
-    for (name, plant) in FAULTS.iter().chain(RETURN_FAULTS).chain(FORM_FAULTS) {
+    for (name, plant) in FAULTS.iter().chain(RETURN_FAULTS).chain(FORM_FAULTS).chain(RATING_FAULTS) {
         let (mut planted, mut found) = (0, 0);
         for (place, stream) in streams.iter().enumerate() {
             if planted == PLANTED_EACH {

@@ -1,5 +1,6 @@
 //! How many answers of each kind were compared.
 
+use crate::definitions::limits::Limits;
 use crate::definitions::network::Network;
 use crate::definitions::switching::Judged;
 use std::collections::BTreeMap;
@@ -35,7 +36,7 @@ impl Tally {
             ("with 128 buses and 256 branches", network.buses() == 128 && joined.len() == 256),
             ("with islands", network.islands().iter().any(|&island| island != 0)),
             ("with parallel branches", joined.windows(2).any(|pair| pair[0] == pair[1])),
-            ("with a limit of 0 in service", network.lines.iter().any(|line| line.served && line.limit == 0)),
+            ("with a limit of 0 in service", network.lines.iter().any(|line| line.served && line.limit(Limits::Normal) == 0)),
             ("with branches out", network.lines.iter().any(|line| !line.served)),
         ];
         self.kinds(call, &kinds);

@@ -1,10 +1,11 @@
 //! Random trial streams with a seed: a few episodes each.
 
 use crate::books::random_books::{counts, strained};
+use crate::books::random_ratings;
 use crate::definitions::record;
 use crate::definitions::switching::Way;
 use crate::streams::under_way::Stream;
-use crate::streams::{damage, make_forms, make_returns, make_tables, make_written};
+use crate::streams::{damage, make_forms, make_ratings, make_returns, make_tables, make_written};
 use crate::trial::stream::{Command, FLOWS, INJECTIONS, NUMBERS, TABLE};
 
 /// The random stream of a seed.
@@ -15,7 +16,7 @@ pub fn stream(seed: u64) -> Vec<u8> {
         if stream.random.once_in(3) {
             stream.add(Command::Spoil);
         }
-        match stream.random.below(22) {
+        match stream.random.below(25) {
             0 => run(&mut stream),
             1 | 2 => run_with_spoilt_table(&mut stream),
             3 | 4 => make_tables::lent_flow(&mut stream),
@@ -29,7 +30,10 @@ pub fn stream(seed: u64) -> Vec<u8> {
             16 => make_returns::from_untrue(&mut stream),
             17 | 18 => make_returns::refused(&mut stream),
             19 | 20 => make_forms::moves(&mut stream),
-            _ => make_forms::refused(&mut stream),
+            21 => make_forms::refused(&mut stream),
+            22 => make_ratings::switched(&mut stream),
+            23 => make_ratings::lent_true(&mut stream),
+            _ => make_ratings::between(&mut stream),
         }
         if stream.dumps_left == 0 {
             break;
@@ -47,7 +51,7 @@ fn run(stream: &mut Stream) {
     stream.screen(count);
     for _ in 0..1 + stream.random.below(5) {
         let any = stream.random.below(count + 2);
-        let branch = if stream.random.once_in(6) { any } else { stream.carrying().unwrap_or(any) };
+        let branch = if stream.random.once_in(6) { any } else { stream.spare().unwrap_or(any) };
         stream.out(count, branch);
         if stream.dumps_left == 0 {
             return;
@@ -60,7 +64,8 @@ fn run_with_spoilt_table(stream: &mut Stream) {
     let count = stream.good_book();
     stream.screen(count);
     for _ in 0..1 + stream.random.below(4) {
-        let Some(branch) = stream.carrying() else { return };
+        let any = stream.random.once_in(4);
+        let Some(branch) = (if any { stream.standing(true) } else { stream.spare() }) else { return };
         make_tables::spoil(stream, count, branch);
         stream.out(count, branch);
         if stream.dumps_left == 0 {
@@ -88,7 +93,9 @@ fn spoilt_flow(stream: &mut Stream) {
 fn overloaded(stream: &mut Stream) {
     for _ in 0..3 {
         let (buses, count) = counts(&mut stream.random);
-        let book = strained(&mut stream.random, buses, count);
+        let rated = stream.random.once_in(2);
+        let book =
+            if rated { random_ratings::overloaded(&mut stream.random) } else { strained(&mut stream.random, buses, count) };
         stream.book(&book);
         stream.screen(book.branches.len());
         if stream.dumps_left == 0 {

@@ -24,7 +24,7 @@ pub fn mixed(stream: &mut Stream) {
             0 => stream.back(count, any),
             1..=3 => take_out(stream, count),
             4 => {
-                let branch = stream.carrying().unwrap_or(any);
+                let branch = stream.spare().unwrap_or(any);
                 stream.out(count, branch);
                 stream.back(count, branch);
             }
@@ -43,7 +43,7 @@ pub fn mixed(stream: &mut Stream) {
 }
 
 fn take_out(stream: &mut Stream, count: usize) {
-    if let Some(branch) = stream.carrying() {
+    if let Some(branch) = stream.spare() {
         stream.out(count, branch);
     }
 }

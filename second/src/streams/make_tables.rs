@@ -82,7 +82,7 @@ pub fn lent_flow(stream: &mut Stream) {
         }
     }
     for _ in 0..1 + stream.random.below(4) {
-        let Some(branch) = stream.carrying() else { return };
+        let Some(branch) = stream.spare() else { return };
         if stream.random.once_in(3) {
             reroute(stream, branch, count);
         }

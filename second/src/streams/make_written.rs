@@ -58,8 +58,9 @@ fn write_one_wrong(stream: &mut Stream, book: &Book, bus: usize) {
 fn spoil_number(stream: &mut Stream, form: Form, count: usize, buses: usize) {
     let row = form.numbers() * stream.random.below(count);
     let (kva, status) = (stream.spaces.numbers[row + 2], form.numbers() - 1);
-    let seconds = [(3, kva.saturating_sub(1)), (3, 0), (3, kva), (3, kva + 1), (3, 1_000_000), (3, 1_000_001)];
-    let others = [(0, buses as u32), (1, u32::MAX), (2, 1_000_001), (status, 2), (status, 0), (status, 1)];
+    let seconds =
+        [(3, kva.saturating_sub(1)), (3, 0), (3, kva), (3, kva.saturating_add(1)), (3, 1_000_000), (3, 1_000_001), (3, u32::MAX)];
+    let others = [(0, buses as u32), (1, u32::MAX), (2, 1_000_001), (2, u32::MAX), (status, 2), (status, 0), (status, 1)];
     let choice = if form == Form::New && stream.random.once_in(2) { seconds } else { others };
     let (place, value) = *stream.random.pick(&choice);
     stream.add(Command::Number(row + place, value));

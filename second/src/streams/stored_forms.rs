@@ -154,7 +154,7 @@ fn switched(stream: &mut Stream) {
     stream.add(WHOLE);
 }
 
-/// The second book's lines are those of its first ratings. Then a run of outages and returns on a book whose ratings differ,
+/// The second book's lines are those of its second ratings. Then a run of outages and returns on a book whose ratings differ,
 /// read and moved between: each status bit stands where the new form has it.
 fn run(stream: &mut Stream) {
     stream.book(&second_two());

@@ -2,10 +2,11 @@
 
 use crate::books::random::Random;
 use crate::books::random_books::{counts, served_with_flow};
+use crate::books::random_ratings::{heavy, heavy_counts};
 use crate::definitions::book::{self, pack, Book};
-use crate::definitions::cuts::Cutter;
+use crate::definitions::cuts::{self, Cutter};
 use crate::definitions::form::LARGEST;
-use crate::definitions::network::{Network, Verdict};
+use crate::definitions::network::Network;
 use crate::definitions::record;
 use crate::definitions::switching::Way;
 use crate::trial::reference;
@@ -99,6 +100,14 @@ impl Stream {
         book.branches.len()
     }
 
+    /// A good book whose ratings differ tellingly in the book space; its number of branches.
+    pub fn heavy_book(&mut self) -> usize {
+        let (buses, count) = heavy_counts(&mut self.random);
+        let (book, _) = heavy(&mut self.random, buses, count);
+        self.book(&book);
+        book.branches.len()
+    }
+
     /// Room for a flow and a table of this many branches: mostly all there is, at times just enough.
     pub fn room(&mut self, count: usize) -> (usize, usize) {
         if self.random.once_in(2) {
@@ -142,24 +151,22 @@ impl Stream {
         (!found.is_empty()).then(|| *self.random.pick(&found))
     }
 
-    /// A branch that carries in the book as it stands, if a few tries find one; one with a flow is preferred.
-    pub fn carrying(&mut self) -> Option<usize> {
-        let book = self.standing_book()?;
-        let network = Network::of(&book);
+    /// A branch in service that is as wanted, of the book as it stands, if so many tries find one; a book with an excess has
+    /// none.
+    pub fn found(&mut self, tries: usize, wanted: impl Fn(&Spaces, &mut Cutter, usize) -> bool) -> Option<usize> {
+        let network = Network::of(&self.standing_book()?);
         let mut cutter = Cutter::new(&network);
         if network.lines.is_empty() || cutter.base_excess().amount > 0 {
             return None;
         }
-        let mut found = None;
-        for _ in 0..8 {
-            let branch = self.random.below(network.lines.len());
-            if cutter.verdict(branch) == Verdict::Carries {
-                found = Some(branch);
-                if self.spaces.flow[branch] != 0 {
-                    break;
-                }
-            }
-        }
-        found
+        let any: Vec<usize> = (0..tries).map(|_| self.random.below(network.lines.len())).collect();
+        any.into_iter().find(|&branch| network.lines[branch].served && wanted(&self.spaces, &mut cutter, branch))
+    }
+
+    /// A branch that can be taken out of the book as it stands, if a few tries find one; one with a flow is preferred.
+    pub fn spare(&mut self) -> Option<usize> {
+        let spare = |network: &Network, branch: usize| cuts::base_excess(&network.without(branch)).amount == 0;
+        let with_flow = self.found(6, |spaces, cutter, branch| spaces.flow[branch] != 0 && spare(cutter.network, branch));
+        with_flow.or_else(|| self.found(6, |_, cutter, branch| spare(cutter.network, branch)))
     }
 }

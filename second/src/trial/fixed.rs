@@ -8,6 +8,7 @@
 use crate::definitions::answer::Answer;
 use crate::definitions::book;
 use crate::definitions::cuts;
+use crate::definitions::limits::Limits;
 use crate::definitions::network::{Line, Network, Verdict};
 use crate::definitions::record::{self, SIZE};
 use crate::definitions::screen;
@@ -106,10 +107,10 @@ impl Fixed {
         }
     }
 
-    /// A number outside its limit makes a flow unfit, whatever the open ones are; and no flow fits a book with an excess.
+    /// A number outside its normal limit makes a flow unfit, whatever the open ones are; and no flow fits a book with an excess.
     fn surely_unfit(&self, network: &Network) -> bool {
         let wrong = |(k, line): (usize, &Line)| {
-            let most = if line.served { line.limit } else { 0 };
+            let most = if line.served { line.limit(Limits::Normal) } else { 0 };
             !self.open_flow[k] && self.spaces.flow[k].abs() > most
         };
         network.lines.iter().enumerate().any(wrong) || cuts::base_excess(network).amount > 0

@@ -11,10 +11,11 @@ use lib.ListN.{length, take, drop}
 use Rattle.answer.specs.Answer.{bare}
 use Rattle.answer.specs.declared.Outcome.the-variants.{Accepted}
 use Rattle.answer.proofs.Refusals.{not-accepted}
+use Rattle.reroute.specs.declared.Verdict.the-variants.{Carries}
 use Rattle.state.specs.Inside.{Poised}
 use Rattle.state.proofs.Surveying.{surveyable, sizes}
 use Rattle.outage.specs.Promise.{takeCheck}
-use Rattle.outage.proofs.OutageEnds.{ends-refused, may, ends-unfit, losable-here, ends-short, fillable-here, poised-here, ends-taken}
+use Rattle.outage.proofs.OutageEnds.{ends-refused, may, ends-unfit, losable-here, ends-short, fillable-here, raisable-here, poised-here, ends-taken}
 use Rattle.outage.proofs.take_out_counted.Statement.{statement}
 use Rattle.outage.proofs.take_out_counted.Tie as tie
 
@@ -26,13 +27,16 @@ abbrev told : tie.After-survey-lent → tie.After-enum-told
 told c = c .before .before .before
 
 abbrev surveyed : tie.After-replace → tie.After-survey-lent
-surveyed c = c .before .before .before .before .before .before .before .before
+surveyed c = c .before .before .before .before .before .before .before .before .before
 
-abbrev replaced : tie.After-kw-with → tie.After-replace
-replaced c = c .before .before .before .before .before .before .before .before .before
+abbrev replaced : tie.After-kw-with2 → tie.After-replace
+replaced c = c .before .before .before .before .before .before .before .before .before .before
 
-abbrev cut-of : tie.After-fill-flow → tie.After-kw-with
+abbrev cut-of : tie.After-fill-flow → tie.After-kw-with2
 cut-of c = c .before .before .before .before
+
+abbrev filled : tie.After-raise → tie.After-fill-flow
+filled c = c .before .before
 
 -- ---- What was lent.
 abbrev bytes : tie.After-enum-told → List ℕ
@@ -63,18 +67,24 @@ group-long : (c : tie.After-replace) → length (c .replace .result .group) ≡ 
 group-long c = search needs
 
 fitting : (c : tie.After-replace) → surveyed c .survey-lent .result .fits ≡ true
-fitting c = not-false _ (c .before .before .before .before .before .before .before .if1 .left)
+fitting c = not-false _ (c .before .before .before .before .before .before .before .before .if1 .left)
+
+carried : (c : tie.After-kw-with2) → replaced c .replace .result .verdict ≡ Carries
+carried c = c .before .before .before .before .before .before .before .before .enum-told2 .given .1
 
 -- The rows that are left, as a state of the case without the branch.
-poised : (c : tie.After-fill-flow)
-    → Poised (surveyed (replaced (cut-of c)) .survey-lent .result .wires) (cut-of c .before .served-with .result) (cut-of c .kw-with .result) (replaced (cut-of c) .replace .result .latent)
+poised : (c : tie.After-raise)
+    → Poised (surveyed (replaced (cut-of (filled c))) .survey-lent .result .wires) (cut-of (filled c) .before .before .served-with .result)
+    (cut-of (filled c) .kw-with2 .result) (c .raise .result)
 poised c =
-    let u = cut-of c in
+    let f = filled c in
+    let u = cut-of f in
     let r = replaced u in
     let m = surveyed r in
     let t = told m in
     poised-here (bytes t) (lent-flow t) (lent-table t) (lost t) (ok t) _ (m .survey-lent .ensures) (fitting r) _ _ (r .replace .ensures)
-    (u .before .served-with .ensures) (u .kw-with .ensures) (u .before .before .before .before .before .before .before .enum-told2 .given .1) _ (c .fill-flow .ensures)
+    (u .before .before .served-with .ensures) (u .before .kw-with .ensures) (u .kw-with2 .ensures) (carried u) _ (f .fill-flow .ensures)
+    (c .raise .ensures)
 
 -- ---- The needs.
 check-requires : tie.Need-check-requires
@@ -118,7 +128,7 @@ returns-2 c =
 
 stretch-requires : tie.Need-stretch-requires
 stretch-requires c κs =
-    let m = c .before .before .before .before .before in
+    let m = c .before .before .before .before .before .before in
     omega (arith, table-room m, sizes-at m)
 
 reroute-of-requires : tie.Need-reroute-of-requires
@@ -126,7 +136,7 @@ reroute-of-requires c κs = c .stretch .ensures .long
 
 replace-requires : tie.Need-replace-requires
 replace-requires c κs =
-    let e = c .before .before .before .before .before .before in
+    let e = c .before .before .before .before .before .before .before in
     let m = e .before in
     let t = told m in
     losable-here (bytes t) (lent-flow t) (lent-table t) (lost t) (ok t) _ (m .survey-lent .ensures) (not-false _ (e .if1 .left))
@@ -166,6 +176,10 @@ served-with-requires c κs = let s = sizes-at (surveyed (c .before .before .befo
 kw-with-requires : tie.Need-kw-with-requires
 kw-with-requires c κs = let s = sizes-at (surveyed (c .before .before .before .before .before .before .before .before)) in omega (arith, s .1, s .2)
 
+kw-with-requires-2 : tie.Need-kw-with-requires-2
+kw-with-requires-2 c κs = let s = sizes-at (surveyed (c .before .before .before .before .before .before .before .before .before)) in omega
+    (arith, s .1, s .2)
+
 shortlist-requires : tie.Need-shortlist-requires
 shortlist-requires c κs = let m = surveyed (replaced (c .before)) in (sizes-at m .1, table-room m)
 
@@ -176,14 +190,24 @@ fill-flow-requires c κs =
     let m = surveyed r in
     let t = told m in
     fillable-here (bytes t) (lent-flow t) (lent-table t) (lost t) (ok t) _ (m .survey-lent .ensures) (fitting r) _ _ (r .replace .ensures)
-    (u .before .served-with .ensures) (u .kw-with .ensures)
+    (u .before .before .served-with .ensures) (u .before .kw-with .ensures) (u .kw-with2 .ensures)
+
+raise-requires : tie.Need-raise-requires
+raise-requires c κs =
+    let f = c .before in
+    let u = cut-of f in
+    let r = replaced u in
+    let m = surveyed r in
+    let t = told m in
+    raisable-here (bytes t) (lent-flow t) (lent-table t) (lost t) (ok t) _ (m .survey-lent .ensures) (fitting r) _ _ (r .replace .ensures)
+    (u .before .before .served-with .ensures) (u .before .kw-with .ensures) (u .kw-with2 .ensures) (carried u) _ (f .fill-flow .ensures)
 
 rewrite-requires : tie.Need-rewrite-requires
-rewrite-requires c κs = let f = c .before .before in (poised f, table-room (surveyed (replaced (cut-of f))))
+rewrite-requires c κs = let u = c .before in (poised u, table-room (surveyed (replaced (cut-of (filled u)))))
 
 set-status-requires : tie.Need-set-status-requires
 set-status-requires c κs =
-    let f = c .before .before .before .before .before .before in
+    let f = filled (c .before .before .before .before .before) in
     let s = sizes-at (surveyed (replaced (cut-of f))) in
     (omega (arith, s .1, s .2), omega arith)
 
@@ -202,14 +226,17 @@ same-length-9 c = search needs
 returns-4 : tie.Need-returns-4
 returns-4 c =
     let w = c .before .before .before .before .before .before .before in
-    let f = w .before .before .before in
+    let l = w .before .before in
+    let f = filled l in
     let u = cut-of f in
     let r = replaced u in
     let m = surveyed r in
     let t = told m in
     ends-taken (bytes t) (lent-flow t) (lent-table t) (lost t) (ok t) _ (m .survey-lent .ensures) (fitting r) _ _ (r .replace .ensures)
-    (u .before .served-with .ensures) (u .kw-with .ensures) (u .before .before .before .before .before .before .before .enum-told2 .given .1) _ (f .fill-flow .ensures) _ (u .before .before .touch .ensures)
-    (c .told3 .ensures .0) (c .told3 .ensures .1) (r .before .reroute-of .ensures ∙ ap (λ (rec : List ℕ). take 32 (drop 20 rec)) (r .before .before .stretch .ensures .its-bytes))
+    (u .before .before .served-with .ensures) (u .before .kw-with .ensures) (u .kw-with2 .ensures) (carried u) _ (f .fill-flow .ensures) _
+    (u .before .before .before .touch .ensures)
+    (l .raise .ensures) (c .told3 .ensures .0) (c .told3 .ensures .1)
+    (r .before .reroute-of .ensures ∙ ap (λ (rec : List ℕ). take 32 (drop 20 rec)) (r .before .before .stretch .ensures .its-bytes))
     (f .before .before .shortlist .ensures) (c .before .before .before .set-status .ensures) (w .rewrite .ensures)
 
 pub take-out-counted-spec : {M : Type 1} → statement M
@@ -240,8 +267,10 @@ take-out-counted-spec =
     touch-requires
     served-with-requires
     kw-with-requires
+    kw-with-requires-2
     shortlist-requires
     fill-flow-requires
+    raise-requires
     rewrite-requires
     set-status-requires
     told-requires-3

@@ -14,7 +14,7 @@ use Rattle.answer.proofs.Refusals.{not-accepted}
 use Rattle.state.specs.Inside.{Poised}
 use Rattle.state.proofs.Surveying.{surveyable, sizes}
 use Rattle.restore.specs.Promise.{backCheck}
-use Rattle.restore.proofs.ReturnEnds.{ends-refused, may, ends-unfit, poised-here, ends-back}
+use Rattle.restore.proofs.ReturnEnds.{ends-refused, may, ends-unfit, raisable-here, poised-here, ends-back}
 use Rattle.restore.proofs.bring_back.Statement.{statement}
 use Rattle.restore.proofs.bring_back.Tie as tie
 
@@ -26,7 +26,10 @@ abbrev told : tie.After-survey-lent → tie.After-enum-told
 told c = c .before .before
 
 abbrev surveyed : tie.After-back → tie.After-survey-lent
-surveyed c = c .before .before .before .before .before .before .before .before
+surveyed c = c .before .before .before .before .before .before .before .before .before .before
+
+abbrev raised : tie.After-back → tie.After-raise
+raised c = c .before .before
 
 abbrev in-hand : tie.After-kw-with3 → tie.After-back
 in-hand c = c .before .before .before .before
@@ -64,7 +67,7 @@ table-room c =
     omega (arith, may (bytes t) (lent-flow t) (lent-table t) (returning t) (ok t) .passes .table-room, c .survey-lent .ensures .branches-are)
 
 fitting : (c : tie.After-back) → surveyed c .survey-lent .result .fits ≡ true
-fitting c = not-false _ (c .before .before .before .before .before .before .before .if1 .left)
+fitting c = not-false _ (c .before .before .before .before .before .before .before .before .before .if1 .left)
 
 -- The rows with the branch in service, as a state of the changed case.
 poised : (c : tie.After-kw-with3)
@@ -74,7 +77,7 @@ poised c =
     let r = in-hand c in
     let m = surveyed r in
     let t = told m in
-    poised-here (bytes t) (lent-flow t) (lent-table t) (returning t) (ok t) _ (m .survey-lent .ensures) (fitting r)
+    poised-here (bytes t) (lent-flow t) (lent-table t) (returning t) (ok t) _ (m .survey-lent .ensures) (fitting r) _ (raised r .raise .ensures)
     (c .before .before .before .served-with .ensures) (c .before .before .kw-with .ensures) (c .before .kw-with2 .ensures) (c .kw-with3 .ensures)
 
 -- ---- The needs.
@@ -120,6 +123,13 @@ mul-kw c = omega (arith, below (c .before .before .before))
 element-copy-out-kw : tie.Need-element-copy-out-kw
 element-copy-out-kw c = omega (arith, below (c .before .before .before))
 
+raise-requires : tie.Need-raise-requires
+raise-requires c κs =
+    let q = c .before .before .before .before .before .before in
+    let m = q .before in
+    let t = told m in
+    raisable-here (bytes t) (lent-flow t) (lent-table t) (returning t) (ok t) _ (m .survey-lent .ensures) (not-false _ (q .if1 .left))
+
 served-with-requires : tie.Need-served-with-requires
 served-with-requires c κs = below (surveyed c)
 
@@ -159,7 +169,7 @@ returns-3 c =
     let r = in-hand k in
     let m = surveyed r in
     let t = told m in
-    ends-back (bytes t) (lent-flow t) (lent-table t) (returning t) (ok t) _ (m .survey-lent .ensures) (fitting r)
+    ends-back (bytes t) (lent-flow t) (lent-table t) (returning t) (ok t) _ (m .survey-lent .ensures) (fitting r) _ (raised r .raise .ensures)
     (k .before .before .before .served-with .ensures) (k .before .before .kw-with .ensures) (k .before .kw-with2 .ensures) (k .kw-with3 .ensures)
     (c .answer-with3 .ensures) (w .before .before .anew .ensures) (c .before .before .before .set-status .ensures) (w .rewrite .ensures)
 
@@ -179,6 +189,7 @@ bring-back-spec =
     returns-2
     mul-kw
     element-copy-out-kw
+    raise-requires
     served-with-requires
     kw-with-requires
     kw-with-requires-2

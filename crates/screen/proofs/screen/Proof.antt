@@ -1,7 +1,7 @@
 -- The screen: its checks, the base flow of the rows of its book, and every record from that.
 use borrow.Author.Needs.{needs}
 use native.Mathlib.Omega.{arith}
-use mathlib.Core.Path.{_≡_, sym, _∙_}
+use mathlib.Core.Path.{_≡_, refl, sym, _∙_}
 use mathlib.Core.List.{List}
 use Prim.Native.Nat.{ℕ, _*_, _≤_}
 use lib.IntN.{ℤ}
@@ -14,14 +14,16 @@ use Rattle.layout.specs.Book.{WellFormed}
 use Rattle.layout.specs.Layout.{bookOf}
 use Rattle.layout.proofs.WellFormed.{accepted-well}
 use Rattle.verdict.specs.Case.{on}
+use Rattle.verdict.proofs.Normal.{normal}
 use Rattle.state.specs.Case.{caseIn}
 use Rattle.state.specs.Call.{lentCheck}
 use Rattle.state.specs.Inside.{Held, State}
 use Rattle.state.specs.declared.Plan.{Plan}
 use Rattle.state.proofs.Checked.{Passed, passed}
-use Rattle.state.proofs.Opening.{plannable, held, gain-is, load-is}
+use Rattle.state.proofs.Opening.{plannable, held, held-live, gain-is, load-is}
+use Rattle.state.proofs.Raising.{overload-normal, raisable, raised-state}
 use Rattle.state.proofs.Base.{basic, overload, fillable, state-left}
-use Rattle.state.proofs.Status.{branches-of, level-of}
+use Rattle.state.proofs.Status.{branches-of}
 use Rattle.screen.proofs.ScreenEnd.{by-check, by-overload, by-table}
 use Rattle.screen.proofs.screen.Statement.{statement}
 use Rattle.screen.proofs.screen.Tie as tie
@@ -46,7 +48,7 @@ abbrev made : tie.After-prepare → Plan
 made c = c .prepare .result
 
 abbrev prepared : tie.After-load → tie.After-prepare
-prepared c = c .before .before .before .before
+prepared c = c .before .before .before .before .before
 
 abbrev based : tie.After-served → tie.After-base-flow
 based c = c .before .before .before .before .before
@@ -61,8 +63,12 @@ passes c = passed (bytes c) (length (lent-flow c)) (length (lent-table c)) (ok c
 well : (c : tie.After-enum-told) → WellFormed (bookOf (bytes c))
 well c = accepted-well (bytes c) (passes c .book)
 
-hold : (c : tie.After-prepare) → Held (caseIn (bytes (told c))) (made c .wires) (made c .served) (made c .live)
-hold c = held (bookOf (bytes (told c))) (well (told c)) _ (c .before .rows-of .ensures) (made c) (c .prepare .ensures)
+hold : (c : tie.After-prepare) → Held (normal (caseIn (bytes (told c)))) (made c .wires) (made c .served) (made c .live)
+hold c = held-live (bookOf (bytes (told c))) (well (told c)) _ (c .before .rows-of .ensures) (made c) (c .prepare .ensures)
+
+-- The same by the limits that a loss is judged by.
+hold-loss : (c : tie.After-prepare) → Held (caseIn (bytes (told c))) (made c .wires) (made c .served) (made c .brief)
+hold-loss c = held (bookOf (bytes (told c))) (well (told c)) _ (c .before .rows-of .ensures) (made c) (c .prepare .ensures)
 
 gains : (c : tie.After-prepare) → nth (made c .gain) ≡ (λ i. posPart (caseIn (bytes (told c)) .injection i))
 gains c = gain-is (bookOf (bytes (told c))) (well (told c)) _ (c .before .rows-of .ensures) (made c) (c .prepare .ensures)
@@ -81,13 +87,28 @@ group-long c = search needs
 
 -- The flow that is left, and the rows as its state.
 left : (c : tie.After-fill-flow)
-    → State (caseIn (bytes (told (prepared (based (c .before .before) .before))))) (on (c .fill-flow .last .0)) (made (prepared (based (c .before .before) .before)) .wires)
+    → State (normal (caseIn (bytes (told (prepared (based (c .before .before) .before)))))) (on (c .fill-flow .last .0))
+    (made (prepared (based (c .before .before) .before)) .wires)
     (made (prepared (based (c .before .before) .before)) .served) (made (prepared (based (c .before .before) .before)) .live) (based (c .before .before) .base-flow .result .latent)
 left c =
     let b = based (c .before .before) in
     let at = prepared (b .before) in
-    state-left (caseIn (bytes (told at))) (level-of (bytes (told at))) _ _ _ _ _ (hold at) (gains at) (loads at) _ (b .base-flow .ensures) _ _
+    state-left (normal (caseIn (bytes (told at)))) refl _ _ _ _ _ (hold at) (gains at) (loads at) _ (b .base-flow .ensures) _ _
     (c .before .before .before .before .before .enum-told2 .given .1) (c .fill-flow .ensures)
+
+-- The same rows under the limits that a loss is judged by.
+abbrev filled : tie.After-raise → tie.After-fill-flow
+filled c = c .before .before
+
+lifted : (c : tie.After-raise)
+    → State (caseIn (bytes (told (prepared (based (filled c .before .before) .before))))) (on (filled c .fill-flow .last .0))
+    (made (prepared (based (filled c .before .before) .before)) .wires)
+    (made (prepared (based (filled c .before .before) .before)) .served) (made (prepared (based (filled c .before .before) .before)) .brief)
+    (c .raise .result)
+lifted c =
+    let f = filled c in
+    let at = prepared (based (f .before .before) .before) in
+    raised-state (caseIn (bytes (told at))) _ _ _ _ _ _ (left f) (hold-loss at) (c .raise .ensures)
 
 -- ---- The needs.
 check-lent-requires : tie.Need-check-lent-requires
@@ -111,7 +132,7 @@ prepare-requires c κs = plannable (bookOf _) (well (c .before)) _ (c .rows-of .
 base-flow-requires : tie.Need-base-flow-requires
 base-flow-requires c κs =
     let at = prepared c in
-    basic (caseIn (bytes (told at))) (level-of (bytes (told at))) _ _ _ _ _ (hold at) (gains at) (loads at)
+    basic (normal (caseIn (bytes (told at)))) refl _ _ _ _ _ (hold at) (gains at) (loads at)
 
 enum-known-verdict : tie.Need-enum-known-verdict
 enum-known-verdict c = search needs
@@ -121,7 +142,9 @@ returns-2 c =
     let b = c .before .before .before .before in
     let at = prepared (b .before) in
     by-overload _ _ _ (ok (told at))
-    (overload (caseIn (bytes (told at))) (level-of (bytes (told at))) _ _ _ _ _ (hold at) (gains at) (loads at) _ (b .base-flow .ensures) _ (c .before .before .verdict .given .1) (group-long b))
+    (overload-normal (caseIn (bytes (told at))) _
+    (overload (normal (caseIn (bytes (told at)))) refl _ _ _ _ _ (hold at) (gains at) (loads at) _ (b .base-flow .ensures) _
+    (c .before .before .verdict .given .1) (group-long b)))
 
 enum-told-2 : tie.Need-enum-told-2
 enum-told-2 c = search needs
@@ -130,12 +153,17 @@ fill-flow-requires : tie.Need-fill-flow-requires
 fill-flow-requires c κs =
     let b = based (c .before) in
     let at = prepared (b .before) in
-    fillable (caseIn (bytes (told at))) (level-of (bytes (told at))) _ _ _ _ _ (hold at) (gains at) (loads at) _ (b .base-flow .ensures) _ (flow-room at)
+    fillable (normal (caseIn (bytes (told at)))) refl _ _ _ _ _ (hold at) (gains at) (loads at) _ (b .base-flow .ensures) _ (flow-room at)
+
+raise-requires : tie.Need-raise-requires
+raise-requires c κs =
+    let f = c .before in
+    let at = prepared (based (f .before .before) .before) in
+    raisable (caseIn (bytes (told at))) _ _ _ _ _ _ (left f) (hold-loss at)
 
 rewrite-requires : tie.Need-rewrite-requires
 rewrite-requires c κs =
-    let f = c .before .before in
-    (record { case = _; flow = _; state = left f }, table-room (prepared (based (f .before .before) .before)))
+    (record { case = _; flow = _; state = lifted (c .before) }, table-room (prepared (based (filled (c .before) .before .before) .before)))
 
 answer-with-requires-2 : tie.Need-answer-with-requires-2
 answer-with-requires-2 c κs = search needs
@@ -149,10 +177,11 @@ same-length-2 c = search needs
 returns-3 : tie.Need-returns-3
 returns-3 c =
     let w = c .before .before .before in
-    let f = w .before .before .before in
-    let at = prepared (based (f .before .before) .before) in
-    let s = left f in
-    by-table _ _ _ (ok (told at)) _ (c .answer-with2 .ensures) (hold at .branches-are) (flow-room at) (f .fill-flow .ensures) (s .fits) (w .rewrite .ensures _ _ s) (s .held .posed .few-branches)
+    let u = w .before .before in
+    let at = prepared (based (filled u .before .before) .before) in
+    let s = lifted u in
+    by-table _ _ _ (ok (told at)) _ (c .answer-with2 .ensures) (hold at .branches-are) (flow-room at) (filled u .fill-flow .ensures) (s .fits)
+    (w .rewrite .ensures _ _ s) (s .held .posed .few-branches)
 
 pub screen-spec : {M : Type 1} → statement M
 screen-spec =
@@ -169,6 +198,7 @@ screen-spec =
     returns-2
     enum-told-2
     fill-flow-requires
+    raise-requires
     rewrite-requires
     answer-with-requires-2
     same-length

@@ -16,13 +16,13 @@ prepare-requires c κs =
 
 test-requires : tie.Need-test-requires
 test-requires c κs =
-    let m = c .before .before .before .before .before in
+    let m = c .before .before .before .before .before .before in
     let r = m .before .before in
     lendable-here _ (start r .args .flow .now) (start r .pre) _ (r .rows-of .ensures) _ (m .prepare .ensures)
 
 returns : tie.Need-returns
 returns c =
-    let m = c .before .before .before .before .before .before .before in
+    let m = c .before .before .before .before .before .before .before .before in
     let r = m .before .before in
     surveyed _ (start r .args .flow .now) (start r .pre) _ (r .rows-of .ensures) _ (m .prepare .ensures) _ (c .before .test .ensures)
 

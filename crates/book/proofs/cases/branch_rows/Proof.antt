@@ -1,4 +1,4 @@
--- `branch_rows` fills the four rows with the book's branches.
+-- `branch_rows` fills the five rows with the book's branches.
 use borrow.Author.Needs.{needs}
 use native.Mathlib.Omega.{arith}
 use Prim.Native.Nat.{_-_}
@@ -7,14 +7,14 @@ use Rattle.book.proofs.cases.branch_rows.Statement.{statement}
 use Rattle.book.proofs.cases.branch_rows.Tie as tie
 
 abbrev Inv-loop : tie.InvT-loop
-Inv-loop book form buses branches factor first₀ second₀ served₀ limit₀ k₀ first second served limit k =
-    Branching form book buses branches factor first₀ second₀ served₀ limit₀ first second served limit k
+Inv-loop book form buses branches factor first₀ second₀ served₀ limit₀ loss₀ k₀ first second served limit loss k =
+    Branching form book buses branches factor first₀ second₀ served₀ limit₀ loss₀ first second served limit loss k
 
 abbrev μ-loop : tie.MeasureT-loop
-μ-loop book form buses branches factor first₀ second₀ served₀ limit₀ k₀ first second served limit k = branches - k
+μ-loop book form buses branches factor first₀ second₀ served₀ limit₀ loss₀ k₀ first second served limit loss k = branches - k
 
 loop-holds : tie.Need-loop-holds Inv-loop μ-loop
-loop-holds c = branching-start _ _ _ _ _ _ _ _ _
+loop-holds c = branching-start _ _ _ _ _ _ _ _ _ _
 
 branch-at-requires : tie.Need-branch-at-requires Inv-loop μ-loop
 branch-at-requires c κs = search needs
@@ -47,6 +47,15 @@ mul-limit c = omega arith
 array-set-from-limit : tie.Need-array-set-from-limit Inv-loop μ-loop
 array-set-from-limit c = omega arith
 
+loss-of-requires : tie.Need-loss-of-requires Inv-loop μ-loop
+loss-of-requires c κs = search needs
+
+mul-loss : tie.Need-mul-loss Inv-loop μ-loop
+mul-loss c = omega arith
+
+array-set-from-loss : tie.Need-array-set-from-loss Inv-loop μ-loop
+array-set-from-loss c = omega arith
+
 add-k : tie.Need-add-k Inv-loop μ-loop
 add-k c = omega arith
 
@@ -55,12 +64,13 @@ loop-less c = omega arith
 
 loop-again : tie.Need-loop-again Inv-loop μ-loop
 loop-again c =
-    let x = c .before .before .before .before in
+    let x = c .before .before .before .before .before in
     let l = x .before in
-    branching-more _ _ _ _ _ _ _ _ _ _ _ _ (l .loop-test .taken) (l .before .before .before .pre .1) (l .before .loop .inv) (x .branch-at .ensures) (c .limit-of .ensures)
+    branching-more _ _ _ _ _ _ _ _ _ _ _ _ _ _ (l .loop-test .taken) (l .before .before .before .pre .1) (l .before .loop .inv)
+    (x .branch-at .ensures) (c .before .limit-of .ensures) (c .loss-of .ensures)
 
 returns : tie.Need-returns Inv-loop μ-loop
-returns c = branching-end _ _ _ _ _ _ _ (c .loop-test .left) (c .before .loop .inv)
+returns c = branching-end _ _ _ _ _ _ _ _ (c .loop-test .left) (c .before .loop .inv)
 
 pub branch-rows-spec : {M : Type 1} → statement M
 branch-rows-spec =
@@ -78,6 +88,9 @@ branch-rows-spec =
     limit-of-requires
     mul-limit
     array-set-from-limit
+    loss-of-requires
+    mul-loss
+    array-set-from-loss
     add-k
     loop-less
     loop-again

@@ -13,7 +13,7 @@ branch-rows-requires c κs =
 
 returns : tie.Need-returns
 returns c =
-    let v = c .before .before .before .before .before .before in
+    let v = c .before .before .before .before .before .before .before in
     rows-read _ _ (v .before .before .before .pre .0) _ _ (v .before .bus-rows .ensures) (v .branch-rows .ensures)
 
 pub rows-with-spec : {M : Type 1} → statement M

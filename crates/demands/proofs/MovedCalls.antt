@@ -1,0 +1,150 @@
+-- A book and the same book moved to another form: what a screen or a call on the moved one ends with, the one on the first may end with too, lent the
+-- same flow and table. So by uniqueness they answer alike.
+use mathlib.Core.Path.{_≡_, refl, sym, ap, _∙_, subst}
+use mathlib.Core.List.{List}
+use Prim.Native.Nat.{ℕ, _<_}
+use native.Mathlib.Omega.{arith}
+use lib.IntN.{ℤ, pos}
+use Rattle.answer.specs.declared.Outcome.{Outcome}
+use Rattle.answer.specs.declared.Outcome.the-variants.{Accepted}
+use Rattle.answer.specs.declared.Answer.{Answer}
+use Rattle.answer.specs.Answer.{numberOf, noGroup, Said}
+use Rattle.bits.specs.Field.{setBit}
+use Rattle.layout.specs.declared.Form.{Form}
+use Rattle.layout.specs.Layout.{branchesIn, statusBit}
+use Rattle.layout.specs.Check.{checkOf}
+use Rattle.verdict.specs.Case.{Case, out, back, on, Fits}
+use Rattle.verdict.specs.Record.{recordAt}
+use Rattle.verdict.specs.Update.{Lent, Beyond, Shortlisted, Renewed}
+use Rattle.state.specs.Case.{caseIn}
+use Rattle.state.specs.Call as call
+use Rattle.state.specs.Call.{lentCheck, lent, OverloadSaid, Ends}
+use Rattle.state.proofs.Status.{branches-of, Restated, restates}
+use Rattle.switch.specs.Check.{branchCheck}
+use Rattle.switch.proofs.Checking.{switchable}
+use Rattle.screen.specs.Promise.{ScreenEnds, refuses, overloads, accepts}
+use Rattle.outage.specs.Promise.{Touched, Confined, TakenOut, TakeEnds}
+use Rattle.restore.specs.Promise.{Anew, BroughtBack, BackEnds}
+use Rattle.demands.proofs.Moves.{movedBytes, MovedTo}
+use Rattle.demands.proofs.Unique.{screens-same}
+use Rattle.demands.proofs.UniqueCalls.{calls-same}
+use Rattle.demands.proofs.UniqueReturns.{returns-same}
+
+-- The lent flow and table beside another book.
+abbrev beside : List ℕ → Lent → Lent
+beside bs l = lent bs (l .flow) (l .table)
+
+module _ {bs : List ℕ} {f : Form} {room room′ : List ℕ} (ok : checkOf bs ≡ Accepted) (m : MovedTo bs f room room′) where
+  abbrev moved : List ℕ
+  moved = movedBytes bs f
+
+  count-moved : branchesIn moved ≡ branchesIn bs
+  count-moved = sym (branches-of moved) ∙ ap (λ (C : Case). C .branches) (m .same-case) ∙ branches-of bs
+
+  check-moved : (flows bytes : ℕ) → lentCheck moved flows bytes ≡ lentCheck bs flows bytes
+  unfolding lentCheck
+  check-moved flows bytes = rw (ok, m .still-accepted, count-moved) refl
+
+  branch-moved : (flows bytes b v n : ℕ) → branchCheck moved flows bytes b v n ≡ branchCheck bs flows bytes b v n
+  unfolding branchCheck
+  branch-moved flows bytes b v n = rw (check-moved flows bytes, count-moved, m .says) refl
+
+  -- ---- Screens.
+  module _ {flow : List ℤ} {table : List ℕ} {after : Lent} {r : Answer} where
+    pub screen-moved : ScreenEnds (lent moved flow table) after r → ScreenEnds (lent bs flow table) (beside bs after) r
+    screen-moved (refuses n a k) =
+        refuses (λ q. n (check-moved _ _ ∙ q)) (subst (λ (o : Outcome). Said r (numberOf o) 0 noGroup) (check-moved _ _) a) (ap (beside bs) k)
+    screen-moved (overloads c o k) = overloads (sym (check-moved _ _) ∙ c) (subst (λ (C : Case). OverloadSaid C r) (m .same-case) o)
+        (ap (beside bs) k)
+    screen-moved (accepts c a s) = accepts (sym (check-moved _ _) ∙ c) a (record {
+      table-true = rw (← m .same-case) (s .table-true);
+      book-kept = refl;
+      beyond = near (s .beyond);
+    })
+      where
+        near : Beyond (caseIn moved) (lent moved flow table) after → Beyond (caseIn bs) (lent bs flow table) (beside bs after)
+        near d = rw (← m .same-case)
+            (record { flow-long = d .flow-long; flow-rest = d .flow-rest; table-long = d .table-long; table-rest = d .table-rest })
+
+    pub screens-alike : {one : Lent} {s : Answer} → ScreenEnds (lent bs flow table) one s → ScreenEnds (lent moved flow table) after r → s ≡ r
+    screens-alike x y = screens-same x (screen-moved y) .answers
+
+  -- ---- Calls that change the case. X is what the one on the moved book did, Y what the one on the first may then have done, with the book bs′.
+  ends-moved : {check check′ : Outcome} {C C′ D D′ : Case} {X : Type 0} {flow : List ℤ} {table : List ℕ} {after : Lent} {r : Answer}
+      (Y : List ℕ → Type 0)
+      → check ≡ check′ → C ≡ C′ → D ≡ D′ → (check′ ≡ Accepted → X → (bs′ : List ℕ) × Y bs′)
+      → Ends check C D X (lent moved flow table) after r → (bs′ : List ℕ) × Ends check′ C′ D′ (Y bs′) (lent bs flow table) (beside bs′ after) r
+  ends-moved {r = r} Y e c d did (call.refuses n a k) =
+      (bs, call.refuses (λ q. n (e ∙ q)) (subst (λ (o : Outcome). Said r (numberOf o) 0 noGroup) e a) (ap (beside bs) k))
+  ends-moved {flow = flow} Y e c d did (call.unfit q n a k) =
+      (bs, call.unfit (sym e ∙ q) (λ h. n (subst (λ (C : Case). Fits C (C .limit) (on flow)) (sym c) h)) a (ap (beside bs) k))
+  ends-moved {flow = flow} {r = r} Y e c d did (call.overloads q h o k) = (
+    bs,
+    call.overloads (sym e ∙ q) (subst (λ (C : Case). Fits C (C .limit) (on flow)) c h) (subst (λ (D : Case). OverloadSaid D r) d o)
+        (ap (beside bs) k),
+  )
+  ends-moved {flow = flow} Y e c d did (call.accepts q h a o) =
+      let x = did (sym e ∙ q) o in
+      (x .0, call.accepts (sym e ∙ q) (subst (λ (C : Case). Fits C (C .limit) (on flow)) c h) a (x .1))
+
+  -- The book has its own status bit changed.
+  restated-at : (flows bytes b v n : ℕ) → v < 2 → branchCheck bs flows bytes b v n ≡ Accepted → Restated bs b v (setBit bs (statusBit bs b) v)
+  restated-at flows bytes b v n l c = restates bs b v ok (switchable bs flows bytes b v n c .there) l
+
+  module _ {flow : List ℤ} {table : List ℕ} {after : Lent} where
+    renewed-moved : (change : Case → Case) (listed : Case → ℕ → Type 0) (bs′ : List ℕ)
+        → Renewed (change (caseIn moved)) (listed (caseIn moved)) (lent moved flow table) after
+        → Renewed (change (caseIn bs)) (listed (caseIn bs)) (lent bs flow table) (beside bs′ after)
+    renewed-moved change listed bs′ u = subst (λ (C : Case). Renewed (change C) (listed C) (lent bs flow table) (beside bs′ after)) (m .same-case)
+        (record {
+          fits = u .fits;
+          rewritten = u .rewritten;
+          kept = u .kept;
+          beyond = record {
+            flow-long = u .beyond .flow-long;
+            flow-rest = u .beyond .flow-rest;
+            table-long = u .beyond .table-long;
+            table-rest = u .beyond .table-rest;
+          };
+        })
+
+    pub take-moved : {b : ℕ} {r : Answer} → TakeEnds b (lent moved flow table) after r
+        → (bs′ : List ℕ) × TakeEnds b (lent bs flow table) (beside bs′ after) r
+    take-moved {b} = ends-moved (λ bs′. TakenOut b (lent bs flow table) (beside bs′ after)) (branch-moved _ _ b 0 10) (m .same-case)
+        (ap (λ (C : Case). out C b) (m .same-case)) (λ c o.
+        let s = restated-at _ _ b 0 10 (omega arith) c in (
+          setBit bs (statusBit bs b) 0,
+          record {
+            book-is = refl;
+            book-accepted = s .book;
+            case-is = s .case-is;
+            updated = renewed-moved (λ C. out C b) (λ C. Shortlisted (out C b) table (Touched (on flow) (on (after .flow)) b)) _ (o .updated);
+            idle = subst (λ (C : Case). on flow b ≡ pos 0 → (j : ℕ) → j < C .branches → on (after .flow) j ≡ on flow j) (m .same-case) (o .idle);
+            confined = subst
+                (λ (C : Case). (h : ℕ → ℤ) → Fits (out C b) (C .limit) h → Confined C (on flow) (recordAt table b) b h
+                → Confined C (on flow) (recordAt table b) b (on (after .flow)))
+                (m .same-case) (o .confined);
+          },
+        ))
+
+    pub back-moved : {b : ℕ} {r : Answer} → BackEnds b (lent moved flow table) after r
+        → (bs′ : List ℕ) × BackEnds b (lent bs flow table) (beside bs′ after) r
+    back-moved {b} = ends-moved (λ bs′. BroughtBack b (lent bs flow table) (beside bs′ after)) (branch-moved _ _ b 1 17) (m .same-case)
+        (ap (λ (C : Case). back C b) (m .same-case)) (λ c o.
+        let s = restated-at _ _ b 1 17 (omega arith) c in (
+          setBit bs (statusBit bs b) 1,
+          record {
+            book-is = refl;
+            book-accepted = s .book;
+            case-is = s .case-is;
+            flow-is = o .flow-is;
+            own-is = o .own-is;
+            renewed = renewed-moved (λ C. back C b) (λ C. Anew table b) _ (o .renewed);
+          },
+        ))
+
+    pub takes-alike : {b : ℕ} {one : Lent} {r s : Answer} → TakeEnds b (lent bs flow table) one s → TakeEnds b (lent moved flow table) after r → s ≡ r
+    takes-alike x y = calls-same x (take-moved y .1) .answers
+
+    pub backs-alike : {b : ℕ} {one : Lent} {r s : Answer} → BackEnds b (lent bs flow table) one s → BackEnds b (lent moved flow table) after r → s ≡ r
+    backs-alike x y = returns-same x (back-moved y .1) .same .answers
