@@ -8,7 +8,7 @@ use lib.IntN.{ℤ, pos}
 use lib.ListN.{length, take}
 use lib.Seq.{getD-take}
 use Rattle.rows.specs.Row.{nth, every}
-use Rattle.answer.specs.Answer.{numberOf}
+use Rattle.answer.specs.Answer.{numberOf, shortageOf}
 use Rattle.rows.specs.Sum.{over, sum}
 use Rattle.answer.specs.declared.Outcome.the-variants.{Accepted}
 use Rattle.answer.specs.declared.Answer.{Answer}
@@ -35,8 +35,8 @@ use Rattle.state.proofs.Status.{branches-of}
 use Rattle.demands.proofs.Excluded.{eleven-first}
 use Rattle.verdict.proofs.Shown.{out-exactly}
 use Rattle.demands.proofs.Demand3.{run-true, run-posed}
-use Rattle.examples.specs.Row.{out, carries, short, sightBytes, Shows, Takes}
-use Rattle.examples.specs.Table.{minus, joins, triangle, second, markedRows}
+use Rattle.examples.specs.Row.{out, carries, short, sightBytes, Shows, Refuses, Takes}
+use Rattle.examples.specs.Table.{minus, joins, triangle, second, pair, feeder, way, markedRows}
 use Rattle.examples.proofs.Tests.{wellTest, well-sound, fitsTest, fits-sound}
 use Rattle.examples.proofs.Marked.{row-in, marked-examples}
 
@@ -62,6 +62,38 @@ module _ {flow : List ℤ} {table : List ℕ} {after : Lent} {r : Answer} where
       let s : Shows (second Old 25) (short 20 (0 ∷ []) ∷ short 35 (0 ∷ 1 ∷ []) ∷ short 20 (0 ∷ 1 ∷ []) ∷ short 20 (0 ∷ 1 ∷ 2 ∷ []) ∷ []) (lent (encode (second Old 25)) flow table) after r =
       marked-examples Old _ (row-in (markedRows Old) 7 (omega arith)) flow table after r l m e in
       omega (arith, first-byte (recordAt (after .table) 0) _ (s .records 0 (omega arith)))
+
+-- ---- Limits taken for one another.
+module _ {flow : List ℤ} {table : List ℕ} {after : Lent} {r : Answer} where
+  -- A screen that judges a loss by the normal limits.
+  pub shown-by-normal : 2 ≤ length flow → 104 ≤ length table → ScreenEnds (lent (encode pair) flow table) after r
+      → verdictIn (recordAt (after .table) 0) ≡ 2 → ⊥
+  unfolding sightBytes recordBytes
+  shown-by-normal l m e v =
+      let s : Shows pair (carries ∷ carries ∷ []) (lent (encode pair) flow table) after r =
+      marked-examples Old _ (row-in (markedRows Old) 14 (omega arith)) flow table after r l m e in
+      omega (arith, first-byte (recordAt (after .table) 0) _ (s .records 0 (omega arith)))
+
+  -- One whose base flow keeps to the second limits.
+  pub fitted-by-second : 1 ≤ length flow → 52 ≤ length table → ScreenEnds (lent (encode feeder) flow table) after r → numberOf (r .outcome) ≡ 0 → ⊥
+  fitted-by-second l m e n =
+      let k : Refuses 10 (0 ∷ []) (lent (encode feeder) flow table) after r =
+      marked-examples Old _ (row-in (markedRows Old) 18 (omega arith)) flow table after r l m e in
+      omega (arith, k .answer .number-is)
+
+  -- A call that takes a branch out for good by the second limits.
+  pub taken-by-second : Run (lent (encode pair) flow table) → TakeEnds 0 (lent (encode pair) flow table) after r → numberOf (r .outcome) ≡ 0 → ⊥
+  taken-by-second run e n =
+      let k : Refuses 10 (0 ∷ []) (lent (encode pair) flow table) after r =
+      marked-examples Old _ (row-in (markedRows Old) 15 (omega arith)) flow table after r run e in
+      omega (arith, k .answer .number-is)
+
+  -- One that refuses with the shortage that the record shows.
+  pub twelve-as-shown : Run (lent (encode way) flow table) → TakeEnds 0 (lent (encode way) flow table) after r → shortageOf (r .outcome) ≡ 10 → ⊥
+  twelve-as-shown run e n =
+      let k : Refuses 20 (0 ∷ []) (lent (encode way) flow table) after r =
+      marked-examples Old _ (row-in (markedRows Old) 17 (omega arith)) flow table after r run e in
+      omega (arith, k .answer .shortage-is)
 
 -- ---- Calls: branch 0 of the triangle, on what a run left.
 well-T : wellTest T ≡ true

@@ -54,6 +54,10 @@ rated first second kva kva2 = record { first = first; second = second; kva = inK
 abbrev pub pair : Book
 pair = record { form = New; factor = 1000; injections = pos 30 ∷ minus 30 ∷ []; branches = rated 0 1 20 30 ∷ rated 0 1 20 30 ∷ [] }
 
+-- One branch of 20 kVA, for a short time of 30, that would have to carry 30 for good.
+abbrev pub feeder : Book
+feeder = record { form = New; factor = 1000; injections = pos 30 ∷ minus 30 ∷ []; branches = rated 0 1 20 30 ∷ [] }
+
 -- A branch beside a way of two: by the second figures the second part of the way is the narrow one, by the normal figures the first.
 abbrev pub way : Book
 way = record {
@@ -96,4 +100,6 @@ markedRows f =
     -- a branch shown as short, whose 12 has another group and more
     ∷ shows way (short 10 (0 ∷ 1 ∷ []) ∷ carries ∷ carries ∷ [])
     ∷ keeps way 0 20 (0 ∷ [])
+    -- a book whose load fits by the second figures alone
+    ∷ refuses feeder 10 (0 ∷ [])
     ∷ []

@@ -127,19 +127,14 @@ module _ (bs : List ℕ) (flow : List ℤ) (table : List ℕ) (b : ℕ) where
                   (held-switched C (q .wires) (q .served) (q .brief) (p .held) ls (brief-left .long) b
                   (omega (arith, there, p .held .posed .few-branches)) false 0 refl)
 
-              pub raisable-here : Raisable (q .wires .branches) live brief (y .latent .ahead) × Raisable (q .wires .branches) live brief
-                  (y .latent .back)
+              pub raisable-here : Raisable (q .wires .branches) live brief (y .latent)
               raisable-here = raisable (out C b) (on flow′) (q .wires) served live brief (y .latent) state-left held-left
 
-              -- What is left, under the limits that a loss is judged by.
-              abbrev Up : Latent → Type 0
-              Up left = Raised (q .wires .branches) live brief (y .latent .ahead) (left .ahead) × Raised (q .wires .branches) live brief
-                  (y .latent .back) (left .back)
-
-              state-raised : {left : Latent} → Up left → State (out C b) (on flow′) (q .wires) served brief left
+              state-raised : {left : Latent} → Raised (q .wires .branches) live brief (y .latent) left
+                  → State (out C b) (on flow′) (q .wires) served brief left
               state-raised up = raised-state (out C b) (on flow′) (q .wires) served live brief (y .latent) state-left held-left up
 
-              pub poised-here : {left : Latent} → Up left → Poised (q .wires) served brief left
+              pub poised-here : {left : Latent} → Raised (q .wires .branches) live brief (y .latent) left → Poised (q .wires) served brief left
               poised-here up = record { case = out C b; flow = on flow′; state = state-raised up }
 
               module _ (touched : List ℕ) (m : Marked (q .wires .branches) (q .latent .ahead) (y .latent .ahead) b touched) where
@@ -168,7 +163,8 @@ module _ (bs : List ℕ) (flow : List ℤ) (table : List ℕ) (b : ℕ) where
                 ]
 
                 pub ends-taken :
-                    {bs′ table′ bits : List ℕ} {losses : ℕ} {t : Taken} {left : Latent} → Up left → t .answer ≡ accepted → t .judged ≡ losses
+                    {bs′ table′ bits : List ℕ} {losses : ℕ} {t : Taken} {left : Latent} → Raised (q .wires .branches) live brief (y .latent) left
+                    → t .answer ≡ accepted → t .judged ≡ losses
                     → named ≡ take 32 (drop 20 (recordAt table b))
                     → Listing (q .wires .branches) (listedAt served touched table) bits → bs′ ≡ setBit bs (statusBit bs b) 0
                     → ((D : Case) (f : ℕ → ℤ) → State D f (q .wires) served brief left → Rewritten D f served bits table table′ losses)

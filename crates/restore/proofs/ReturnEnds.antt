@@ -57,13 +57,11 @@ module _ (bs : List ℕ) (flow : List ℤ) (table : List ℕ) (b : ℕ) where
       ends-unfit e a = unfit ok (p .unfit e) (rw a (said-refused 11 (λ z. omega arith) (λ z. omega arith))) refl
 
       module _ (e : q .fits ≡ true) where
-        pub raisable-here : Raisable (q .wires .branches) (q .live) (q .brief) (q .latent .ahead) × Raisable (q .wires .branches) (q .live) (q .brief)
-            (q .latent .back)
+        pub raisable-here : Raisable (q .wires .branches) (q .live) (q .brief) (q .latent)
         raisable-here = raisable C (on flow) (q .wires) (q .served) (q .live) (q .brief) (q .latent) (p .fitting e) (p .held)
 
         module _ (up : Latent)
-            (raised : Raised (q .wires .branches) (q .live) (q .brief) (q .latent .ahead) (up .ahead) × Raised (q .wires .branches) (q .live)
-            (q .brief) (q .latent .back) (up .back))
+            (raised : Raised (q .wires .branches) (q .live) (q .brief) (q .latent) up)
             {served : List Bool} {brief ahead back-row : List ℕ}
             (served-is : With (q .served) b true served) (brief-is : With (q .brief) b (kwAt (q .loss) b) brief)
             (ahead-is : With (up .ahead) b (kwAt (q .loss) b) ahead) (back-is : With (up .back) b (kwAt (q .loss) b) back-row) where

@@ -17,18 +17,18 @@ use Rattle.search.specs.declared.Latent.{Latent}
 use Rattle.verdict.specs.Case.{Case}
 use Rattle.verdict.proofs.Normal.{normal, posed-normal, fits-normal}
 use Rattle.state.specs.Call.{OverloadSaid}
-use Rattle.state.specs.Inside.{Held, State, Raisable, Raised}
+use Rattle.state.specs.Inside.{Held, State, RowRaisable, RowRaised, Raisable, Raised}
 use Rattle.state.proofs.TrueRecords.{held-limit, held-small}
 
 -- ---- A row raised branch by branch.
 module _ (n : ℕ) (live brief row : List ℕ) where
   pub record Raising (r : List ℕ) (k : ℕ) : Type 0 where
-    pub asked : Raisable n live brief row
+    pub asked : RowRaisable n live brief row
     pub upto : k ≤ n
     pub long : length r ≡ 256
     pub so-far : (j : ℕ) → j < k → nth r j + nth live j ≡ nth row j + nth brief j
 
-  pub raising-none : Raisable n live brief row → length row ≡ 256 → Raising row 0
+  pub raising-none : RowRaisable n live brief row → length row ≡ 256 → Raising row 0
   raising-none a l = record { asked = a; upto = omega arith; long = l; so-far = λ j u. absurd (omega arith) }
 
   pub raising-more : {r : List ℕ} {k : ℕ} (x : ℕ) → Raising r k → k < n → x + nth live k ≡ nth row k + nth brief k → Raising (set r k x) (k + 1)
@@ -40,8 +40,8 @@ module _ (n : ℕ) (live brief row : List ℕ) where
         (rw (getD-set-same r k x 0 (omega (arith, w .asked .few, w .long))) e);
   }
 
-  pub raising-all : {r : List ℕ} {k : ℕ} → Raising r k → k ≡ n → Raised n live brief row r
-  raising-all {r} {k} w e = record { raised = λ j u. w .so-far j (omega arith); long = w .long }
+  pub raising-all : {r : List ℕ} {k : ℕ} → Raising r k → k ≡ n → RowRaised n live brief row r
+  raising-all {r} {k} w e = record { raised = λ j u. w .so-far j (omega arith) }
 
 -- ---- The rows of a case.
 pub held-normal : (C : Case) (W : Wires) (served : List Bool) (brief live : List ℕ) → Held C W served brief
@@ -79,26 +79,25 @@ module _ (C : Case) (f : ℕ → ℤ) (W : Wires) (served : List Bool) (live bri
 
   -- The latent capacities make up twice the normal limit.
   small : (row other : List ℕ) → ((k : ℕ) → k < W .branches → nth row k + nth other k ≡ nth live k + nth live k)
-      → Raisable (W .branches) live brief row
+      → RowRaisable (W .branches) live brief row
   small row other e = record {
     few = h .linked .wired .size;
     rising = rising;
     small = λ k u. omega (arith, e k u, rising k u, held-small C W served brief h k u);
   }
 
-  pub raisable : Raisable (W .branches) live brief (lat .ahead) × Raisable (W .branches) live brief (lat .back)
-  raisable = (
-    small (lat .ahead) (lat .back) (λ k u. omega (arith, s .latents .ahead-is k (in-C k u), s .latents .back-is k (in-C k u), live-at k)),
-    small (lat .back) (lat .ahead) (λ k u. omega (arith, s .latents .ahead-is k (in-C k u), s .latents .back-is k (in-C k u), live-at k)),
-  )
+  pub raisable : Raisable (W .branches) live brief lat
+  raisable = record {
+    ahead = small (lat .ahead) (lat .back) (λ k u. omega (arith, s .latents .ahead-is k (in-C k u), s .latents .back-is k (in-C k u), live-at k));
+    back = small (lat .back) (lat .ahead) (λ k u. omega (arith, s .latents .ahead-is k (in-C k u), s .latents .back-is k (in-C k u), live-at k));
+  }
 
-  pub raised-state : {r : Latent} → Raised (W .branches) live brief (lat .ahead) (r .ahead) × Raised (W .branches) live brief (lat .back) (r .back)
-      → State C f W served brief r
+  pub raised-state : {r : Latent} → Raised (W .branches) live brief lat r → State C f W served brief r
   raised-state w = record {
     held = h;
     latents = record {
-      ahead-is = λ k u. omega (arith, s .latents .ahead-is k u, w .0 .raised k (rw (h .branches-are) u), live-at k, brief-at k);
-      back-is = λ k u. omega (arith, s .latents .back-is k u, w .1 .raised k (rw (h .branches-are) u), live-at k, brief-at k);
+      ahead-is = λ k u. omega (arith, s .latents .ahead-is k u, w .ahead .raised k (rw (h .branches-are) u), live-at k, brief-at k);
+      back-is = λ k u. omega (arith, s .latents .back-is k u, w .back .raised k (rw (h .branches-are) u), live-at k, brief-at k);
     };
     fits = fits-normal C (C .limit) f .1 (s .fits);
   }

@@ -84,15 +84,23 @@ pub record Surveyed (bs : List ℕ) (flow : List ℤ) (r : Survey) : Type 0 wher
   pub fitting : r .fits ≡ true → State (normal (caseIn bs)) (on flow) (r .wires) (r .served) (r .live) (r .latent)
   pub unfit : r .fits ≡ false → Fits (caseIn bs) (caseIn bs .limit) (on flow) → ⊥
 
--- `raise`: a row of what is latent under the limits in `live`, and the same row under those in `brief`, which are higher.
-pub record Raisable (n : ℕ) (live brief row : List ℕ) : Type 0 where
+-- `raised_row`: a row of what is latent under the limits in `live`, and the same row under those in `brief`, which are higher.
+pub record RowRaisable (n : ℕ) (live brief row : List ℕ) : Type 0 where
   pub few : n ≤ 256
   pub rising : (k : ℕ) → k < n → nth live k ≤ nth brief k
   pub small : (k : ℕ) → k < n → nth row k + nth brief k < 2 ^ 32
 
-pub record Raised (n : ℕ) (live brief row r : List ℕ) : Type 0 where
+pub record RowRaised (n : ℕ) (live brief row r : List ℕ) : Type 0 where
   pub raised : (k : ℕ) → k < n → nth r k + nth live k ≡ nth row k + nth brief k
-  pub long : length r ≡ 256
+
+-- `raise`: the same of both rows of latent capacities.
+pub record Raisable (n : ℕ) (live brief : List ℕ) (lat : Latent) : Type 0 where
+  pub ahead : RowRaisable n live brief (lat .ahead)
+  pub back : RowRaisable n live brief (lat .back)
+
+pub record Raised (n : ℕ) (live brief : List ℕ) (lat r : Latent) : Type 0 where
+  pub ahead : RowRaised n live brief (lat .ahead) (r .ahead)
+  pub back : RowRaised n live brief (lat .back) (r .back)
 
 -- `fill_flow`: the differences of the first n numbers of two rows are flows that fit, and there is room for them.
 pub record Fillable (n : ℕ) (live ahead : List ℕ) (room : ℕ) : Type 0 where

@@ -9,7 +9,8 @@ ghost use Rattle.rows.specs.Sum.{pick};
 ghost use Rattle.verdict.specs.Case.{Case};
 ghost use Rattle.verdict.specs.Record.{TrueRecord};
 ghost use Rattle.state.specs.Call.{lentCheck};
-ghost use Rattle.state.specs.Inside.{State, Poised, Changed, Live, Plannable, Planned, Surveyable, Surveyed, Raisable, Raised, Fillable, Rewritten};
+ghost use Rattle.state.specs.Inside.{State, Poised, Changed, Live, Plannable, Planned, Surveyable, Surveyed, RowRaisable, RowRaised, Raisable, Raised};
+ghost use Rattle.state.specs.Inside.{Fillable, Rewritten};
 use answer::Outcome;
 use book::CaseRows;
 use quantity::Kw;
@@ -124,8 +125,8 @@ pub fn survey_lent(book: &[u8], flow: &[i32]) -> Survey
 }
 
 fn raised_row(branches: usize, live: [u32; 256], brief: [u32; 256], row: [u32; 256]) -> [u32; 256]
-    requires { ⌜ Raisable branches live brief row ⌝ }
-    ensures { λ r. ⌜ Raised branches live brief row r ⌝ }
+    requires { ⌜ RowRaisable branches live brief row ⌝ }
+    ensures { λ r. ⌜ RowRaised branches live brief row r ⌝ }
 {
     let mut raised = row;
     let mut k: usize = 0;
@@ -138,8 +139,8 @@ fn raised_row(branches: usize, live: [u32; 256], brief: [u32; 256], row: [u32; 2
 
 // What the same flow leaves of the limits that a loss is judged by: more, by as much as these are higher.
 pub fn raise(branches: usize, live: [u32; 256], brief: [u32; 256], latent: Latent) -> Latent
-    requires { ⌜ Raisable branches live brief (latent .ahead) × Raisable branches live brief (latent .back) ⌝ }
-    ensures { λ r. ⌜ Raised branches live brief (latent .ahead) (r .ahead) × Raised branches live brief (latent .back) (r .back) ⌝ }
+    requires { ⌜ Raisable branches live brief latent ⌝ }
+    ensures { λ r. ⌜ Raised branches live brief latent r ⌝ }
 {
     let before = latent.ahead;
     let behind = latent.back;

@@ -34,7 +34,7 @@ array-read-raised-3 : tie.Need-array-read-raised-3 Inv-loop μ-loop
 array-read-raised-3 c = omega arith
 
 sub-raised : tie.Need-sub-raised Inv-loop μ-loop
-sub-raised c = c .before .loop .inv .asked .rising _ (c .loop-test .taken)
+sub-raised c = omega (arith, c .before .loop .inv .asked .rising _ (c .loop-test .taken))
 
 add-raised : tie.Need-add-raised Inv-loop μ-loop
 add-raised c =
