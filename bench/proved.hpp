@@ -18,11 +18,13 @@ struct Lent {
     bool names(int record, int j) const { return table[52 * record + 20 + j / 8] >> (7 - j % 8) & 1; }
 };
 
-// The number of the answer: 0 is accepted, and 12 comes with a shortage and a group.
+// The number of the answer: 0 is accepted, 12 comes with a shortage and a group, 4 and 5 with the item and the field that are wrong.
 struct Answer {
     int number;
     uint32_t shortage;
     Group group;
+    size_t item;
+    uint8_t field;
 };
 
 Answer proved_screen(Lent &lent);

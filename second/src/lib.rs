@@ -2,7 +2,8 @@
 //!
 //! A folder imports only from folders named above it here; `tests/folders.rs` holds that.
 
-/// What the papers define: books of either form, networks, verdicts, records, calls with their refusals, meters, the list.
+/// What the papers define: books of either form, networks, verdicts, records, calls with their refusals and where a book is
+/// wrong, meters, the list.
 pub mod definitions {
     pub mod answer;
     pub mod bits;
@@ -10,8 +11,10 @@ pub mod definitions {
     pub mod branch;
     pub mod comeback;
     pub mod cuts;
+    pub mod fields;
     pub mod form;
     pub mod groups;
+    pub mod items;
     pub mod limits;
     pub mod list;
     pub mod maxflow;
@@ -19,11 +22,13 @@ pub mod definitions {
     pub mod moves;
     pub mod network;
     pub mod outage;
+    pub mod place;
     pub mod record;
     pub mod reroutes;
     pub mod screen;
     pub mod switching;
     pub mod tables;
+    pub mod wrong;
 }
 
 /// Books to try: those with a name, those of source document 001, random ones, and the text form of any.
@@ -49,16 +54,19 @@ pub mod trial {
 
 /// The making of trial streams: the stored one and the random ones; and all that the gate gives its programs.
 pub mod streams {
+    pub mod aim;
     pub mod damage;
     pub mod gate;
     pub mod make;
     pub mod make_forms;
+    pub mod make_places;
     pub mod make_ratings;
     pub mod make_returns;
     pub mod make_tables;
     pub mod make_written;
     pub mod stored;
     pub mod stored_forms;
+    pub mod stored_places;
     pub mod stored_ratings;
     pub mod stored_returns;
     pub mod under_way;
@@ -69,11 +77,13 @@ pub mod judging {
     pub mod accepted;
     pub mod faults;
     pub mod faults_forms;
+    pub mod faults_places;
     pub mod faults_ratings;
     pub mod faults_returns;
     pub mod forms;
     pub mod judge;
     pub mod moved;
+    pub mod places;
     pub mod plant;
     pub mod ratings;
     pub mod run;

@@ -47,7 +47,7 @@ fn run(words: &[&str]) -> Result<bool, String> {
     match words {
         ["outages", file] => print!("{}", list::list(&read(file)?)),
         ["book", from, file] => make_book(from, file)?,
-        ["text", file] => print!("{}", text::print(&book::unpack(&read(file)?).map_err(|number| format!("refused {number}"))?)),
+        ["text", file] => print!("{}", text::print(&book::unpack(&read(file)?).map_err(|refusal| format!("refused {refusal}"))?)),
         ["files", dir] => files(Path::new(dir))?,
         ["store", crates] => gate::files().iter().try_for_each(|(name, bytes)| write(&Path::new(crates).join(name), bytes))?,
         ["gate", crates] => return held(crates),
@@ -98,7 +98,7 @@ fn make_book(from: &str, file: &str) -> Result<(), String> {
     let made = text::parse(&words)?;
     let (buses, count, numbers) = (made.injections.len(), made.branches.len(), tables::numbers(&made));
     let bytes = tables::write(made.form, buses, count, made.factor, &made.injections, &numbers, usize::MAX);
-    write(Path::new(file), &bytes.map_err(|number| format!("refused {number}"))?)
+    write(Path::new(file), &bytes.map_err(|refusal| format!("refused {refusal}"))?)
 }
 
 fn files(dir: &Path) -> Result<(), String> {

@@ -69,7 +69,7 @@ fn books_come_back_from_their_bytes() {
         assert_eq!(unpack(&bytes).as_ref(), Ok(&book));
         let written = |room| write(book.form, buses, book.branches.len(), book.factor, &book.injections, &numbers(&book), room);
         assert_eq!(written(bytes.len()).as_ref(), Ok(&bytes));
-        assert_eq!(written(bytes.len() - 1), Err(8));
+        assert_eq!(written(bytes.len() - 1), Err(8.into()));
         new += (book.form == Form::New) as usize;
     }
     assert!((800..1200).contains(&new), "{new}");

@@ -40,6 +40,11 @@ fn the_stored_stream_begins_as_it_did_before_the_second_limits_counted() {
     begins_as(28_086, 0xa05e_b632_564b_fb0e);
 }
 
+#[test]
+fn the_stored_stream_begins_as_it_did_before_refusals_had_a_place() {
+    begins_as(36_455, 0x85bd_767b_6b72_0501);
+}
+
 /// The stream of then, so many bytes, ended in a bad command of 3 bytes, which stops a stream and so is still the last.
 fn begins_as(length: usize, print: u64) {
     let stream = stored::stream();

@@ -144,14 +144,14 @@ fn moving_refuses_1_to_7_first_and_as_reading_does() {
             assert_eq!(moved(book, form, 0), Err(unpack(book).unwrap_err()));
         }
     }
-    let given: Vec<u8> = damaged_new_books().iter().map(|book| unpack(book).unwrap_err()).collect();
+    let given: Vec<u8> = damaged_new_books().iter().map(|book| unpack(book).unwrap_err().number).collect();
     assert_eq!(given, [1, 1, 1, 1, 1, 1, 2, 2, 3, 3, 4, 4, 5, 5, 5, 5, 5, 6, 7]);
     // Ratings that differ come after the sum and the tail.
     let mut book = with_seconds(triangle(30), &[(0, 41)]);
     let tail = bits::with(&pack(&book), 263, true);
-    assert_eq!(moved(&tail, Form::Old, 0), Err(6));
+    assert_eq!(moved(&tail, Form::Old, 0), Err(6.into()));
     book.injections[0] = 31;
-    assert_eq!(moved(&pack(&book), Form::Old, 0), Err(7));
+    assert_eq!(moved(&pack(&book), Form::Old, 0), Err(7.into()));
 }
 
 #[test]
@@ -160,15 +160,15 @@ fn moving_refuses_18_before_8() {
     let out = pack(&with_out(with_seconds(triangle(30), &[(0, 41)]), 0));
     for book in [&differing, &out] {
         for room in [0, 24, 25, 2100] {
-            assert_eq!(moved(book, Form::Old, room), Err(18));
+            assert_eq!(moved(book, Form::Old, room), Err(18.into()));
         }
-        assert_eq!(moved(book, Form::New, 32), Err(8));
+        assert_eq!(moved(book, Form::New, 32), Err(8.into()));
         assert_eq!(moved(book, Form::New, 33).as_ref(), Ok(book));
     }
     for from in Form::BOTH {
         for (to, length) in [(Form::Old, 25), (Form::New, 33)] {
             let bytes = pack(&Book { form: from, ..triangle(30) });
-            assert_eq!(moved(&bytes, to, length - 1), Err(8));
+            assert_eq!(moved(&bytes, to, length - 1), Err(8.into()));
             assert_eq!(moved(&bytes, to, length), Ok(pack(&Book { form: to, ..triangle(30) })));
         }
     }

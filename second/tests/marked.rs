@@ -79,7 +79,7 @@ fn c_then_branch_1_is_refused() {
     assert_eq!(bytes, pack(&with_out(triangle(30), 0)));
     let (flow, table) = fresh(&bytes);
     let answer = allowed(&Lent { book: &bytes, flow: &flow, table: &table }, 1).unwrap_err();
-    assert_eq!(answer, Answer { number: 12, shortage: 30, group: 1 });
+    assert_eq!(answer, Answer { number: 12, shortage: 30, group: 1, place: None });
 }
 
 #[test]

@@ -7,6 +7,7 @@ use second::definitions::form::Form;
 use second::definitions::meters::{injections, Registers};
 use second::definitions::network::Network;
 use second::definitions::outage::allowed;
+use second::definitions::place::Refusal;
 use second::definitions::switching::Lent;
 use second::definitions::{bits, comeback, list, screen, tables};
 use second::streams::stored::damaged_books;
@@ -23,13 +24,14 @@ fn reading_refuses_1_to_7_in_either_form() {
         let good = in_form(form, triangle(30));
         assert_eq!(unpack(&good).unwrap().form, form);
         reading_refuses_1_to_3(&good, form);
-        assert_eq!(unpack(&in_form(form, plain(&[1_000_001, -10, -20], &[(0, 0, 1)]))), Err(4));
-        assert_eq!(unpack(&bits::with(&in_form(form, plain(&[0, 0], &[(0, 1, 1)])), 32, true)), Err(4));
-        for branch in [(0, 3, 40), (3, 0, 40), (1, 1, 40), (0, 1, 1_000_001)] {
-            assert_eq!(unpack(&in_form(form, plain(&[31, -10, -20], &[(0, 1, 1), branch]))), Err(5));
+        assert_eq!(unpack(&in_form(form, plain(&[1_000_001, -10, -20], &[(0, 0, 1)]))), Err(Refusal::at(4, 0, 2)));
+        assert_eq!(unpack(&bits::with(&in_form(form, plain(&[0, 0], &[(0, 1, 1)])), 32, true)), Err(Refusal::at(4, 0, 2)));
+        for (branch, field) in [((0, 3, 40), 2), ((3, 0, 40), 1), ((1, 1, 40), 2), ((0, 1, 1_000_001), 3)] {
+            let book = plain(&[31, -10, -20], &[(0, 1, 1), branch]);
+            assert_eq!(unpack(&in_form(form, book)), Err(Refusal::at(5, 1, field)));
         }
-        assert_eq!(unpack(&bits::with(&in_form(form, plain(&[1], &[])), 55, true)), Err(6));
-        assert_eq!(unpack(&in_form(form, plain(&[31, -10, -20], &[(0, 1, 1)]))), Err(7));
+        assert_eq!(unpack(&bits::with(&in_form(form, plain(&[1], &[])), 55, true)), Err(6.into()));
+        assert_eq!(unpack(&in_form(form, plain(&[31, -10, -20], &[(0, 1, 1)]))), Err(7.into()));
         let most = plain(&[1_000_000, -1_000_000], &[(0, 1, 1_000_000)]);
         assert_eq!(unpack(&in_form(form, most)).unwrap().injections[0], 1_000_000);
     }
@@ -37,33 +39,33 @@ fn reading_refuses_1_to_7_in_either_form() {
 
 fn reading_refuses_1_to_3(good: &[u8], form: Form) {
     for length in 0..4 {
-        assert_eq!(unpack(&good[..length]), Err(1));
+        assert_eq!(unpack(&good[..length]), Err(1.into()));
     }
-    assert_eq!(unpack(&good[..good.len() - 1]), Err(1));
-    assert_eq!(unpack(&[good, &[0]].concat()), Err(1));
+    assert_eq!(unpack(&good[..good.len() - 1]), Err(1.into()));
+    assert_eq!(unpack(&[good, &[0]].concat()), Err(1.into()));
     let header = |buses: u32, count: u32, factor: u32, fill: u32| (buses << 24 | count << 15 | factor << 5 | fill).to_be_bytes();
     for (buses, count, factor) in
         [(0, 3, 1000), (129, 3, 1000), (255, 3, 1000), (3, 257, 1000), (3, 511, 1000), (3, 3, 0), (3, 3, 1001), (3, 3, 1023)]
     {
-        assert_eq!(unpack(&[&header(buses, count, factor, 31)[..], &good[4..]].concat()), Err(2));
+        assert_eq!(unpack(&[&header(buses, count, factor, 31)[..], &good[4..]].concat()), Err(2.into()));
     }
     for place in 28..32 {
-        assert_eq!(unpack(&bits::with(good, place, true)), Err(3));
-        assert_eq!(unpack(&bits::with(&good[..9], place, true)), Err(3));
+        assert_eq!(unpack(&bits::with(good, place, true)), Err(3.into()));
+        assert_eq!(unpack(&bits::with(&good[..9], place, true)), Err(3.into()));
     }
     // The layout bit is no fill bit: turned, it asks for the length of the other form.
     let mut turned = good.to_vec();
     turned[3] ^= 16;
-    assert_eq!(unpack(&turned), Err(1));
+    assert_eq!(unpack(&turned), Err(1.into()));
     turned.resize(form.other().length(3, 3), 0);
-    assert_ne!(unpack(&turned), Err(1));
+    assert_ne!(unpack(&turned), Err(1.into()));
 }
 
 #[test]
 fn reading_refuses_a_second_kva_below_the_first_or_too_large() {
     let read = |kva: u32, second: u32| {
         let book = with_seconds(plain(&[5, -4], &[(0, 1, 9), (0, 1, kva), (1, 0, 7)]), &[(1, second)]);
-        unpack(&pack(&book)).unwrap_err()
+        unpack(&pack(&book)).unwrap_err().number
     };
     // The sum is wrong besides, so that 7 says that no branch is.
     for (kva, second, due) in [(40, 39, 5), (40, 0, 5), (40, 40, 7), (40, 41, 7), (0, 0, 7), (0, 1_000_000, 7)] {
@@ -84,17 +86,17 @@ fn writing_refuses_in_its_own_order_in_either_form() {
             tables::write(form, buses, count, factor, injections, numbers, room)
         };
         for counts in [(0, 3, 1000), (129, 3, 1000), (3, 257, 1000), (3, 3, 0), (3, 3, 1001)] {
-            assert_eq!(write(counts, &[], &[], 0), Err(2));
+            assert_eq!(write(counts, &[], &[], 0), Err(2.into()));
         }
         let counts = (3, 3, 1000);
-        assert_eq!(write(counts, &[7_777_777; 2], &numbers, 0), Err(8));
-        assert_eq!(write(counts, &[7_777_777; 3], &numbers[..3 * row - 1], 0), Err(8));
-        assert_eq!(write(counts, &[0, 0, i32::MIN as i64], &[9; 15], 0), Err(4));
+        assert_eq!(write(counts, &[7_777_777; 2], &numbers, 0), Err(8.into()));
+        assert_eq!(write(counts, &[7_777_777; 3], &numbers[..3 * row - 1], 0), Err(8.into()));
+        assert_eq!(write(counts, &[0, 0, i32::MIN as i64], &[9; 15], 0), Err(Refusal::at(4, 2, 2)));
         let mut status = numbers.clone();
         status[row - 1] = 2;
-        assert_eq!(write(counts, &[1, 0, 0], &status, 0), Err(5));
-        assert_eq!(write(counts, &[1, 0, 0], &numbers, 0), Err(7));
-        assert_eq!(write(counts, &book.injections, &numbers, bytes.len() - 1), Err(8));
+        assert_eq!(write(counts, &[1, 0, 0], &status, 0), Err(Refusal::at(5, 0, row)));
+        assert_eq!(write(counts, &[1, 0, 0], &numbers, 0), Err(7.into()));
+        assert_eq!(write(counts, &book.injections, &numbers, bytes.len() - 1), Err(8.into()));
         assert_eq!(write(counts, &book.injections, &numbers, bytes.len()), Ok(bytes));
     }
 }
@@ -103,7 +105,7 @@ fn writing_refuses_in_its_own_order_in_either_form() {
 fn writing_refuses_a_second_kva_below_the_first_or_too_large() {
     let write = |second: u32| tables::write(Form::New, 2, 1, 1000, &[1, 0], &[0, 1, 40, second, 1], 0);
     for (second, due) in [(39, 5), (0, 5), (40, 7), (41, 7), (1_000_000, 7), (1_000_001, 5), (u32::MAX, 5)] {
-        assert_eq!(write(second), Err(due), "{second}");
+        assert_eq!(write(second).unwrap_err().number, due, "{second}");
     }
 }
 
@@ -112,9 +114,9 @@ fn reading_into_tables_asks_for_four_or_five_numbers_a_branch() {
     for (form, numbers) in [(Form::Old, 12), (Form::New, 15)] {
         let bytes = in_form(form, triangle(30));
         assert_eq!(tables::read(&bytes, 3, numbers).map(|book| tables::numbers(&book).len()), Ok(numbers));
-        assert_eq!(tables::read(&bytes, 3, numbers - 1), Err(8));
-        assert_eq!(tables::read(&bytes, 2, numbers), Err(8));
-        assert_eq!(tables::read(&in_form(form, plain(&[1], &[])), 0, 0), Err(7));
+        assert_eq!(tables::read(&bytes, 3, numbers - 1), Err(8.into()));
+        assert_eq!(tables::read(&bytes, 2, numbers), Err(8.into()));
+        assert_eq!(tables::read(&in_form(form, plain(&[1], &[])), 0, 0), Err(7.into()));
     }
 }
 
@@ -169,7 +171,7 @@ fn returned(book: &[u8], flow: &[i64], room: usize, branch: usize) -> u8 {
 #[test]
 fn a_return_refuses_1_to_7_first_and_as_reading_does() {
     for books in [damaged_books(), damaged_new_books()] {
-        let due: Vec<u8> = books.iter().map(|book| unpack(book).unwrap_err()).collect();
+        let due: Vec<u8> = books.iter().map(|book| unpack(book).unwrap_err().number).collect();
         let given: Vec<u8> = books.iter().map(|book| returned(book, &[], 0, 65_535)).collect();
         assert_eq!(given, due);
         assert!((1..=7).all(|number| given.contains(&number)));

@@ -114,6 +114,15 @@ fn what_is_wrong_with_a_new_book_is_said_with_its_line() {
 }
 
 #[test]
+fn a_refused_book_has_no_text_and_its_place_is_said() {
+    for (name, due) in [("kva-far", "refused 5 200 3\n"), ("minus-zero", "refused 4 1 2\n"), ("long-2", "refused 2\n")] {
+        let ended = run(&["text".as_ref(), &stored(&format!("{name}.book"))]);
+        assert_eq!((ended.status.code(), ended.stdout.len()), (Some(2), 0));
+        assert_eq!(String::from_utf8(ended.stderr).unwrap(), due);
+    }
+}
+
+#[test]
 fn a_wrong_text_ends_with_2_and_makes_no_book() {
     let (words, book) = (made("wrong.txt"), made("wrong.book"));
     fs::write(&words, TRIANGLE.replace("40 in", "40 on")).unwrap();

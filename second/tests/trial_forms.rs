@@ -63,7 +63,7 @@ fn x_writes_five_numbers_a_branch_and_w_four() {
     assert_eq!(lines[..2], ["write 8 0 0", "write 0 0 0"]);
     assert!(lines[2].starts_with(&format!("book 42 {}0909090909090909", hex(&pack(&second_two())))));
     // Read as four numbers a branch, the first branch's second kVA stands where its status should.
-    assert!(output(&stream(&[book(&second_two()), READ_WHOLE, write(Form::Old, BOOK)])).ends_with("write 5 0 0\n"));
+    assert!(output(&stream(&[book(&second_two()), READ_WHOLE, write(Form::Old, BOOK)])).ends_with("write 5 0 0 0 4\n"));
 }
 
 #[test]
@@ -176,7 +176,7 @@ fn calls_are_counted_by_form() {
         "moved accepted, old to new",
         "moved accepted, into just enough room",
         "moved refused  1, no form",
-        "read refused  5, new form, a second kVA below the first",
+        "read refused  5, new form",
         "write refused  8, new form, its source too short",
     ] {
         assert_eq!(tally.of(kind), 1, "{kind}\n{tally}");
@@ -211,10 +211,6 @@ fn kinds() -> Vec<String> {
             .map(|why| format!("moved refused 18, new form, {why}")),
     );
     kinds.extend(["its source too short", "its output too short"].map(|why| format!("write refused  8, new form, {why}")));
-    for call in ["read", "write", "moved"] {
-        kinds
-            .extend(["below the first", "above 1,000,000"].map(|why| format!("{call} refused  5, new form, a second kVA {why}")));
-    }
     kinds
 }
 

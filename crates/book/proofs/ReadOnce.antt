@@ -10,7 +10,7 @@ use lib.IntN.{ℤ}
 use lib.ListN.{length, drop}
 use Rattle.answer.specs.declared.Outcome.the-variants.{Accepted}
 use Rattle.answer.specs.declared.Answer.{Answer}
-use Rattle.answer.specs.Answer.{numberOf, noGroup, Said, bare}
+use Rattle.answer.specs.Answer.{SaidBy, bare}
 use Rattle.answer.proofs.Refusals.{past-both, leaves}
 use Rattle.layout.specs.Form.{fields}
 use Rattle.layout.specs.Layout.{busesIn, branchesIn, formIn, bookOf, tableOf}
@@ -27,7 +27,7 @@ read-gives bs i j =
     gives-then readNumbers (checkOf bs) _ (gives-more checkNumbers readNumbers (checkOf bs) refl (check-gives bs))
     (gives-if readNumbers (ltb i (busesIn bs) || ltb j (fields (formIn bs) * branchesIn bs)) 8 Accepted refl tt)
 
-pub read-said : (bs : List ℕ) (i j : ℕ) {r : Answer} → r ≡ bare (readCheck bs i j) → Said r (numberOf (readCheck bs i j)) 0 noGroup
+pub read-said : (bs : List ℕ) (i j : ℕ) {r : Answer} → r ≡ bare (readCheck bs i j) → SaidBy (readCheck bs i j) r
 unfolding member
 read-said bs i j = gives-said readNumbers (readCheck bs i j) refl refl (read-gives bs i j)
 

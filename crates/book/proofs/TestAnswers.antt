@@ -7,11 +7,11 @@ use borrow.Author.Tests.{lt-ltb, le-ltb, eq-eqb, ne-eqb}
 use lib.Dec.{ltb}
 use lib.ListN.{length}
 use Rattle.answer.specs.declared.Outcome.the-variants.{Accepted}
-use Rattle.answer.specs.Answer.{refusal}
+use Rattle.answer.specs.Answer.{refusal, refusalAt}
 use Rattle.answer.proofs.Refusals.{past}
 use Rattle.bits.specs.Field.{field}
-use Rattle.layout.specs.declared.Fault.{Fault}
-use Rattle.layout.specs.declared.Fault.the-variants.{Sound, At}
+use Rattle.answer.specs.declared.Place.{Place}
+use Rattle.answer.specs.declared.Place.the-variants.{Nowhere, At}
 use Rattle.layout.specs.Fault.{firstFault}
 use Rattle.layout.specs.Layout.{bitsFor, bytesFor, busesIn, branchesIn, factorIn, formIn, spareIn, injectionAt, tailIn}
 use Rattle.layout.specs.Check.{outside, balances, busFaultAt, branchFaultAt, headCheck, bodyCheck}
@@ -46,10 +46,10 @@ module _ (bs : List ℕ) (h : Head) (r : HeadRead bs h) where
 
   -- ---- the tests after the header's
 
-  abbrev bus-scan : Fault
+  abbrev bus-scan : Place
   bus-scan = firstFault (busFaultAt bs) (h .buses)
 
-  abbrev branch-scan : Fault
+  abbrev branch-scan : Place
   branch-scan = firstFault (branchFaultAt bs) (h .branches)
 
   abbrev tail : ℕ
@@ -58,10 +58,10 @@ module _ (bs : List ℕ) (h : Head) (r : HeadRead bs h) where
   abbrev level : Bool
   level = balances (h .buses) (injectionAt bs)
 
-  bus-is : (w : Fault) → bus-scan ≡ w → firstFault (busFaultAt bs) (busesIn bs) ≡ w
+  bus-is : (w : Place) → bus-scan ≡ w → firstFault (busFaultAt bs) (busesIn bs) ≡ w
   bus-is w e = rw (← r .buses-are) e
 
-  branch-is : (w : Fault) → branch-scan ≡ w → firstFault (branchFaultAt bs) (branchesIn bs) ≡ w
+  branch-is : (w : Place) → branch-scan ≡ w → firstFault (branchFaultAt bs) (branchesIn bs) ≡ w
   branch-is w e = rw (← r .branches-are) e
 
   tail-is : tail ≡ tailIn bs
@@ -70,20 +70,20 @@ module _ (bs : List ℕ) (h : Head) (r : HeadRead bs h) where
   level-is : (t : Bool) → level ≡ t → balances (busesIn bs) (injectionAt bs) ≡ t
   level-is t e = rw (← r .buses-are) e
 
-  pub body-bus : (i j : ℕ) → bus-scan ≡ At i j → refusal 4 ≡ bodyCheck bs
-  body-bus i j e = sym (simp (bus-is (At i j) e))
+  pub body-bus : {w : Place} {i j : ℕ} → w ≡ bus-scan → w ≡ At i j → refusalAt 4 w ≡ bodyCheck bs
+  body-bus {w} {i} {j} h e = rw e (sym (simp (bus-is (At i j) (sym h ∙ e))))
 
-  pub body-branch : (i j : ℕ) → bus-scan ≡ Sound → branch-scan ≡ At i j → refusal 5 ≡ bodyCheck bs
-  body-branch i j b e = sym (simp (bus-is Sound b, branch-is (At i j) e))
+  pub body-branch : {w : Place} {i j : ℕ} → bus-scan ≡ Nowhere → w ≡ branch-scan → w ≡ At i j → refusalAt 5 w ≡ bodyCheck bs
+  body-branch {w} {i} {j} b h e = rw e (sym (simp (bus-is Nowhere b, branch-is (At i j) (sym h ∙ e))))
 
-  pub body-tail : bus-scan ≡ Sound → branch-scan ≡ Sound → (tail ≡ 0 → ⊥) → refusal 6 ≡ bodyCheck bs
-  body-tail b e t = sym (simp (bus-is Sound b, branch-is Sound e, ne-eqb (tailIn bs) 0 (λ q. t (tail-is ∙ q))))
+  pub body-tail : bus-scan ≡ Nowhere → branch-scan ≡ Nowhere → (tail ≡ 0 → ⊥) → refusal 6 ≡ bodyCheck bs
+  body-tail b e t = sym (simp (bus-is Nowhere b, branch-is Nowhere e, ne-eqb (tailIn bs) 0 (λ q. t (tail-is ∙ q))))
 
-  pub body-sum : bus-scan ≡ Sound → branch-scan ≡ Sound → tail ≡ 0 → level ≡ false → refusal 7 ≡ bodyCheck bs
-  body-sum b e t l = sym (simp (bus-is Sound b, branch-is Sound e, eq-eqb (tailIn bs) 0 (sym tail-is ∙ t), level-is false l))
+  pub body-sum : bus-scan ≡ Nowhere → branch-scan ≡ Nowhere → tail ≡ 0 → level ≡ false → refusal 7 ≡ bodyCheck bs
+  body-sum b e t l = sym (simp (bus-is Nowhere b, branch-is Nowhere e, eq-eqb (tailIn bs) 0 (sym tail-is ∙ t), level-is false l))
 
-  pub body-good : bus-scan ≡ Sound → branch-scan ≡ Sound → tail ≡ 0 → level ≡ true → Accepted ≡ bodyCheck bs
-  body-good b e t l = sym (simp (bus-is Sound b, branch-is Sound e, eq-eqb (tailIn bs) 0 (sym tail-is ∙ t), level-is true l))
+  pub body-good : bus-scan ≡ Nowhere → branch-scan ≡ Nowhere → tail ≡ 0 → level ≡ true → Accepted ≡ bodyCheck bs
+  body-good b e t l = sym (simp (bus-is Nowhere b, branch-is Nowhere e, eq-eqb (tailIn bs) 0 (sym tail-is ∙ t), level-is true l))
 
   pub head-range : headCheck bs ≡ Accepted → InRange (h .buses) (h .branches) (h .factor)
   head-range e =

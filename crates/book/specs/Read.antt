@@ -9,7 +9,7 @@ use lib.ListN.{length, drop}
 use Rattle.answer.specs.declared.Outcome.{Outcome}
 use Rattle.answer.specs.declared.Outcome.the-variants.{Accepted}
 use Rattle.answer.specs.declared.Answer.{Answer}
-use Rattle.answer.specs.Answer.{numberOf, noGroup, Said, refuseIf, andThen, settled}
+use Rattle.answer.specs.Answer.{SaidBy, refuseIf, andThen, settled}
 use Rattle.bits.specs.Field.{Bytes}
 use Rattle.layout.specs.Form.{fields}
 use Rattle.layout.specs.Layout.{busesIn, branchesIn, formIn, bookOf, tableOf}
@@ -25,7 +25,7 @@ readNumbers = 1 ∷ 2 ∷ 3 ∷ 4 ∷ 5 ∷ 6 ∷ 7 ∷ 8 ∷ []
 -- The answer to reading bs into two lent tables, and every number that the tables then hold: four or five a branch, by the book's own form.
 pub record BookRead (bs : List ℕ) (injections injections′ : List ℤ) (branches branches′ : List ℕ) (r : Answer) : Type 0 where
   pub bytes : Bytes bs
-  pub answer : Said r (numberOf (readCheck bs (length injections) (length branches))) 0 noGroup
+  pub answer : SaidBy (readCheck bs (length injections) (length branches)) r
   pub injections-left : injections′
       ≡ settled (readCheck bs (length injections) (length branches)) injections (bookOf bs .injections ++ drop (busesIn bs) injections)
   pub branches-left : branches′

@@ -15,11 +15,11 @@ mod cases;
 
 use answer::Answer;
 use answer::Outcome;
+use answer::Place;
 pub use cases::CaseRows;
 pub use cases::rows_of;
 pub use cases::rows_with;
 use layout::Branch;
-use layout::Fault;
 use layout::Form;
 use layout::Head;
 use layout::Sums;
@@ -54,30 +54,30 @@ pub fn injection_at(book: &[u8], k: usize) -> i32
     quantity::signed(x.sign == 1, x.size)
 }
 
-fn first_bus_fault(book: &[u8], buses: usize) -> Fault
+fn first_bus_fault(book: &[u8], buses: usize) -> Place
     requires { ⌜ buses ≤ 128 ⌝ }
     ensures { λ r. ⌜ r ≡ firstFault (busFaultAt (now (book .entry))) buses ⌝ }
 {
     for k in 0..buses {
         let field = layout::bus_fault(layout::bus_at(book, k));
         if field != 0 {
-            return Fault::At { item: k, field };
+            return Place::At { item: k, field };
         }
     }
-    Fault::Sound
+    Place::Nowhere
 }
 
-fn first_branch_fault(book: &[u8], form: Form, buses: usize, branches: usize) -> Fault
+fn first_branch_fault(book: &[u8], form: Form, buses: usize, branches: usize) -> Place
     requires { ⌜ (form ≡ formIn (now book)) × (buses ≡ busesIn (now book)) × (buses ≤ 128) × (branches ≤ 256) ⌝ }
     ensures { λ r. ⌜ r ≡ firstFault (branchFaultAt (now (book .entry))) branches ⌝ }
 {
     for k in 0..branches {
         let field = layout::branch_fault(form, buses, layout::branch_at(book, form, buses, k));
         if field != 0 {
-            return Fault::At { item: k, field };
+            return Place::At { item: k, field };
         }
     }
-    Fault::Sound
+    Place::Nowhere
 }
 
 // What enters is what leaves.
@@ -103,12 +103,12 @@ fn check_body(book: &[u8], h: Head) -> Outcome
     let form = h.form;
     let n = h.buses;
     let bus = first_bus_fault(book, n);
-    if let Fault::At { item: _, field: _ } = bus {
-        return answer::refuse(4);
+    if let Place::At { item: _, field: _ } = bus {
+        return answer::refuse_at(4, bus);
     }
     let branch = first_branch_fault(book, form, n, h.branches);
-    if let Fault::At { item: _, field: _ } = branch {
-        return answer::refuse(5);
+    if let Place::At { item: _, field: _ } = branch {
+        return answer::refuse_at(5, branch);
     }
     if bits::field(book, layout::branch_place(form, n, h.branches), 7) != 0 {
         return answer::refuse(6);

@@ -1,24 +1,42 @@
 // The screen, the outage call, the return and the move of a book to a form under C's calling convention, for programs in other languages to link.
-// A slice is a pointer and a length; the answer comes back as its number, its shortage and its group.
-ghost use Rattle.answer.specs.Answer.{noGroup};
+// A slice is a pointer and a length; the answer comes back as its number, its shortage, its group and its place. Item and field are both 0 where the
+// answer has no place.
+ghost use Rattle.answer.specs.Answer.{placeOf, noGroup};
 ghost use Rattle.layout.specs.Form.{formOf};
 ghost use Rattle.forms.specs.Move.{BookMoved};
 ghost use Rattle.state.specs.Call.{lent};
 ghost use Rattle.screen.specs.Promise.{ScreenEnds};
 ghost use Rattle.outage.specs.Promise.{TakeEnds};
 ghost use Rattle.restore.specs.Promise.{BackEnds};
-ghost use Rattle.callable.specs.Promise.{SaidInParts};
+ghost use Rattle.callable.specs.Promise.{PlaceTold, SaidInParts};
 ghost use Rattle.callable.specs.Inside.{Parts};
 use answer::Answer;
+use answer::Outcome;
 
-// An answer in its three parts.
-fn tell(answer: Answer, shortage: &mut u32, group: &mut [u8; 16]) -> u8
-    ensures { λ r. ⌜ Parts answer r (now (shortage .exit)) (now (group .exit)) ⌝ }
+// Where a book is wrong, in two numbers.
+fn tell_place(outcome: Outcome, item: &mut usize, field: &mut u8)
+    ensures { λ _. ⌜ PlaceTold (placeOf outcome) (now (item .exit)) (now (field .exit)) ⌝ }
+{
+    let place = answer::place_of(outcome);
+    *item = answer::item_of(place);
+    *field = answer::field_of(place);
+}
+
+// An answer in its parts.
+fn tell(
+    answer: Answer,
+    shortage: &mut u32,
+    group: &mut [u8; 16],
+    item: &mut usize,
+    field: &mut u8,
+) -> u8
+    ensures { λ r. ⌜ Parts answer r (now (shortage .exit)) (now (group .exit)) (now (item .exit)) (now (field .exit)) ⌝ }
 {
     let outcome = answer.outcome;
     let reached = answer.group;
     *shortage = answer::shortage_of(outcome);
     *group = reached;
+    tell_place(outcome, item, field);
     answer::number_of(outcome)
 }
 
@@ -29,11 +47,13 @@ pub extern "C" fn callable_screen(
     table: &mut [u8],
     shortage: &mut u32,
     group: &mut [u8; 16],
+    item: &mut usize,
+    field: &mut u8,
 ) -> u8
-    ensures { λ r. ⌜ SaidInParts (ScreenEnds (lent (now (book .entry)) (now (flow .entry)) (now (table .entry))) (lent (now (book .entry)) (now (flow .exit)) (now (table .exit)))) r (now (shortage .exit)) (now (group .exit)) ⌝ }
+    ensures { λ r. ⌜ SaidInParts (ScreenEnds (lent (now (book .entry)) (now (flow .entry)) (now (table .entry))) (lent (now (book .entry)) (now (flow .exit)) (now (table .exit)))) r (now (shortage .exit)) (now (group .exit)) (now (item .exit)) (now (field .exit)) ⌝ }
 {
     let answer = screen::screen(book, flow, table);
-    tell(answer, shortage, group)
+    tell(answer, shortage, group, item, field)
 }
 
 #[no_mangle]
@@ -44,11 +64,13 @@ pub extern "C" fn callable_take_out(
     branch: usize,
     shortage: &mut u32,
     group: &mut [u8; 16],
+    item: &mut usize,
+    field: &mut u8,
 ) -> u8
-    ensures { λ r. ⌜ SaidInParts (TakeEnds branch (lent (now (book .entry)) (now (flow .entry)) (now (table .entry))) (lent (now (book .exit)) (now (flow .exit)) (now (table .exit)))) r (now (shortage .exit)) (now (group .exit)) ⌝ }
+    ensures { λ r. ⌜ SaidInParts (TakeEnds branch (lent (now (book .entry)) (now (flow .entry)) (now (table .entry))) (lent (now (book .exit)) (now (flow .exit)) (now (table .exit)))) r (now (shortage .exit)) (now (group .exit)) (now (item .exit)) (now (field .exit)) ⌝ }
 {
     let answer = outage::take_out(book, flow, table, branch);
-    tell(answer, shortage, group)
+    tell(answer, shortage, group, item, field)
 }
 
 #[no_mangle]
@@ -59,19 +81,28 @@ pub extern "C" fn callable_bring_back(
     branch: usize,
     shortage: &mut u32,
     group: &mut [u8; 16],
+    item: &mut usize,
+    field: &mut u8,
 ) -> u8
-    ensures { λ r. ⌜ SaidInParts (BackEnds branch (lent (now (book .entry)) (now (flow .entry)) (now (table .entry))) (lent (now (book .exit)) (now (flow .entry)) (now (table .exit)))) r (now (shortage .exit)) (now (group .exit)) ⌝ }
+    ensures { λ r. ⌜ SaidInParts (BackEnds branch (lent (now (book .entry)) (now (flow .entry)) (now (table .entry))) (lent (now (book .exit)) (now (flow .entry)) (now (table .exit)))) r (now (shortage .exit)) (now (group .exit)) (now (item .exit)) (now (field .exit)) ⌝ }
 {
     let answer = restore::bring_back(book, flow, table, branch);
-    tell(answer, shortage, group)
+    tell(answer, shortage, group, item, field)
 }
 
 // Form 1 is the new one, as the layout bit has it, and any other number asks for the old one. A move shows neither shortage nor group.
 #[no_mangle]
-pub extern "C" fn callable_move_book(book: &[u8], form: u8, out: &mut [u8]) -> u8
-    ensures { λ r. ⌜ SaidInParts (BookMoved (now (book .entry)) (formOf form) (now (out .entry)) (now (out .exit))) r 0 noGroup ⌝ }
+pub extern "C" fn callable_move_book(
+    book: &[u8],
+    form: u8,
+    out: &mut [u8],
+    item: &mut usize,
+    field: &mut u8,
+) -> u8
+    ensures { λ r. ⌜ SaidInParts (BookMoved (now (book .entry)) (formOf form) (now (out .entry)) (now (out .exit))) r 0 noGroup (now (item .exit)) (now (field .exit)) ⌝ }
 {
     let answer = forms::move_book(book, layout::form_of(form as u32), out);
     let outcome = answer.outcome;
+    tell_place(outcome, item, field);
     answer::number_of(outcome)
 }

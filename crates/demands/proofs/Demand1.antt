@@ -1,4 +1,5 @@
--- Demand 1, over the promises alone: every result of a public call is answered with a number that it may give, and a refusal keeps what was lent.
+-- Demand 1, over the promises alone: every result of a public call is answered with a number that it may give, with a place exactly if that is 4 or
+-- 5, and a refusal keeps what was lent.
 use mathlib.Core.Path.{_≡_, refl, sym, ap, _∙_}
 use mathlib.Core.Bool.{true, false, true≢false}
 use mathlib.Core.List.{List, _∷_}
@@ -6,13 +7,14 @@ use Prim.Native.Nat.{ℕ}
 use lib.IntN.{ℤ}
 use lib.ListN.{length}
 use Rattle.rows.specs.Row.{member}
-use Rattle.answer.specs.Answer.{numberOf, noGroup, Said, bare, accepted}
+use Rattle.answer.specs.Answer.{numberOf, placed, noGroup, Said, SaidBy, bare, refusal, accepted}
+use Rattle.answer.specs.declared.Place.the-variants.{Nowhere}
 use Rattle.answer.specs.declared.Outcome.{Outcome}
 use Rattle.answer.specs.declared.Outcome.the-variants.{Accepted}
 use Rattle.answer.specs.declared.Answer.{Answer}
 use Rattle.answer.proofs.Refusals.{leaves}
 use Rattle.answer.proofs.Said.{said-accepted, said-same}
-use Rattle.answer.proofs.Numbers.{Gives, gives-number, inside, gives-more}
+use Rattle.answer.proofs.Numbers.{Gives, gives-number, gives-place, inside, gives-more}
 use Rattle.layout.specs.declared.Form.{Form}
 use Rattle.pack.specs.Write.{writeNumbers, writeCheck, BookWritten}
 use Rattle.pack.proofs.Given.{write-gives, write-answer}
@@ -37,22 +39,33 @@ use Rattle.demands.specs.Answered.{Answered}
 use Rattle.demands.proofs.Ends.{back-never-12}
 
 -- ---- One answer.
-by-checks : (ns ms : List ℕ) (kept : Type 0) (o : Outcome) (r : Answer) → Gives ns o → inside ns ms ≡ true → Said r (numberOf o) 0 noGroup → ((r ≡ accepted → ⊥) → kept) → Answered ms kept r
+by-checks : (ns ms : List ℕ) (kept : Type 0) (o : Outcome) (r : Answer) → Gives ns o → inside ns ms ≡ true → SaidBy o r
+    → ((r ≡ accepted → ⊥) → kept) → Answered ms kept r
 by-checks ns ms kept o r g i s h = record {
   given = rw (s .number-is) (gives-number ms o (gives-more ns ms o i g));
-  silent = λ n. rw (s .number-is) s;
+  silent = λ n. rw (s .number-is, s .place-is) s;
+  place-given = rw (s .number-is, s .place-is) (gives-place ns o g);
   refused-keeps = h;
 }
 
 by-overload : (ms : List ℕ) (kept : Type 0) (C : Case) (r : Answer) → OverloadSaid C r → member 12 (0 ∷ ms) ≡ true → kept → Answered ms kept r
+unfolding member
 by-overload ms kept C r o g h = record {
   given = rw (o .answer .number-is) g;
   silent = λ n. absurd (n (o .answer .number-is));
+  place-given = rw (o .answer .number-is, o .answer .place-is) refl;
   refused-keeps = λ n. h;
 }
 
-by-number : (ms : List ℕ) (kept : Type 0) (n : ℕ) (r : Answer) → Said r n 0 noGroup → member n (0 ∷ ms) ≡ true → ((r ≡ accepted → ⊥) → kept) → Answered ms kept r
-by-number ms kept n r s g h = record { given = rw (s .number-is) g; silent = λ _. rw (s .number-is) s; refused-keeps = h }
+-- By a number without a place.
+by-number : (ms : List ℕ) (kept : Type 0) (n : ℕ) (r : Answer) → Said r n 0 noGroup Nowhere → member n (0 ∷ ms) ≡ true → member n placed ≡ false
+    → ((r ≡ accepted → ⊥) → kept) → Answered ms kept r
+by-number ms kept n r s g f h = record {
+  given = rw (s .number-is) g;
+  silent = λ _. rw (s .number-is, s .place-is) s;
+  place-given = rw (s .number-is, s .place-is) (sym f);
+  refused-keeps = h;
+}
 
 -- A number outside the list is never given.
 never : {ms : List ℕ} {kept : Type 0} {r : Answer} → Answered ms kept r → (n : ℕ) → member n (0 ∷ ms) ≡ false → numberOf (r .outcome) ≡ n → ⊥
@@ -91,7 +104,7 @@ pub screens : {before after : Lent} {r : Answer} → ScreenEnds before after r �
 unfolding member inside
 screens {before} {after} {r} (refuses n a k) = by-checks lentNumbers (12 ∷ lentNumbers) _ (screenCheck before) r (lent-gives _ _ _) refl a (λ h. k)
 screens {before} {after} {r} (overloads c o k) = by-overload (12 ∷ lentNumbers) _ _ r o refl k
-screens {before} {after} {r} (accepts c a s) = by-number (12 ∷ lentNumbers) _ 0 r a refl (λ h. absurd (h (said-same a said-accepted)))
+screens {before} {after} {r} (accepts c a s) = by-number (12 ∷ lentNumbers) _ 0 r a refl refl (λ h. absurd (h (said-same a said-accepted)))
 
 -- The checks give ns; the list ms has these and 11, and it has 12 where that is given.
 pub answers : (ns ms : List ℕ) {check : Outcome} {C D : Case} {done : Type 0} {before after : Lent} {r : Answer} → Gives ns check
@@ -99,9 +112,9 @@ pub answers : (ns ms : List ℕ) {check : Outcome} {C D : Case} {done : Type 0} 
     → Ends check C D done before after r → Answered ms (after ≡ before) r
 unfolding member
 answers ns ms {check} {C} {D} {done} {before} {after} {r} g i m v (call.refuses n a k) = by-checks ns ms _ check r g i a (λ h. k)
-answers ns ms {check} {C} {D} {done} {before} {after} {r} g i m v (call.unfit c n a k) = by-number ms _ 11 r a m (λ h. k)
+answers ns ms {check} {C} {D} {done} {before} {after} {r} g i m v (call.unfit c n a k) = by-number ms _ 11 r a m refl (λ h. k)
 answers ns ms {check} {C} {D} {done} {before} {after} {r} g i m v (call.overloads c f o k) = by-overload ms _ D r o (v o) k
-answers ns ms {check} {C} {D} {done} {before} {after} {r} g i m v (call.accepts c f a o) = by-number ms _ 0 r a refl (λ h. absurd (h (said-same a said-accepted)))
+answers ns ms {check} {C} {D} {done} {before} {after} {r} g i m v (call.accepts c f a o) = by-number ms _ 0 r a refl refl (λ h. absurd (h (said-same a said-accepted)))
 
 module _ {b : ℕ} {before after : Lent} {r : Answer} where
   pub takes : TakeEnds b before after r → Answered (11 ∷ 12 ∷ takeNumbers) (after ≡ before) r
@@ -124,20 +137,21 @@ module _ {b : ℕ} {before after : Lent} {r : Answer} where
   back-never-10 e = never (backs e) 10 refl
 
 -- ---- The first test that fails is the one that is given.
-pub screen-first : {before after : Lent} {r : Answer} → ScreenEnds before after r → (screenCheck before ≡ Accepted → ⊥) → Said r (numberOf (screenCheck before)) 0 noGroup
+pub screen-first : {before after : Lent} {r : Answer} → ScreenEnds before after r → (screenCheck before ≡ Accepted → ⊥)
+    → SaidBy (screenCheck before) r
 screen-first (refuses n a k) h = a
 screen-first (overloads c o k) h = absurd (h c)
 screen-first (accepts c a s) h = absurd (h c)
 
 module _ {check : Outcome} {C D : Case} {done : Type 0} {before after : Lent} {r : Answer} where
-  pub call-first : Ends check C D done before after r → (check ≡ Accepted → ⊥) → Said r (numberOf check) 0 noGroup
+  pub call-first : Ends check C D done before after r → (check ≡ Accepted → ⊥) → SaidBy check r
   call-first (call.refuses n a k) h = a
   call-first (call.unfit c n a k) h = absurd (h c)
   call-first (call.overloads c f o k) h = absurd (h c)
   call-first (call.accepts c f a o) h = absurd (h c)
 
   -- Past the checks, a lent flow that doesn't fit is refused with 11.
-  pub call-unfit : Ends check C D done before after r → check ≡ Accepted → (Fits C (C .limit) (on (before .flow)) → ⊥) → Said r 11 0 noGroup
+  pub call-unfit : Ends check C D done before after r → check ≡ Accepted → (Fits C (C .limit) (on (before .flow)) → ⊥) → SaidBy (refusal 11) r
   call-unfit (call.refuses n a k) c m = absurd (n c)
   call-unfit (call.unfit c′ m′ a k) c m = a
   call-unfit (call.overloads c′ f o k) c m = absurd (m f)

@@ -6,7 +6,7 @@ use Prim.Native.Nat.{ℕ}
 use native.Mathlib.Omega.{arith}
 use lib.ListN.{length}
 use Rattle.rows.specs.Row.{member}
-use Rattle.answer.specs.Answer.{numberOf, noGroup, Said, accepted}
+use Rattle.answer.specs.Answer.{numberOf, SaidBy, accepted}
 use Rattle.answer.specs.declared.Outcome.{Outcome}
 use Rattle.answer.specs.declared.Outcome.the-variants.{Accepted}
 use Rattle.answer.specs.declared.Answer.{Answer}
@@ -31,7 +31,7 @@ use Rattle.restore.proofs.Checking.{Returnable, returnable, returning, back-giv
 pub number-of : {r s : Answer} → r ≡ s → numberOf (r .outcome) ≡ numberOf (s .outcome)
 number-of e = ap (λ (x : Answer). numberOf (x .outcome)) e
 
-pub is-accepted : {r : Answer} → Said r 0 0 noGroup → r ≡ accepted
+pub is-accepted : {r : Answer} → SaidBy Accepted r → r ≡ accepted
 is-accepted s = said-same s said-accepted
 
 pub never-accepted : {r : Answer} {n : ℕ} → numberOf (r .outcome) ≡ n → (n ≡ 0 → ⊥) → r ≡ accepted → ⊥
@@ -41,7 +41,8 @@ pub over-not : {C : Case} {r : Answer} → OverloadSaid C r → r ≡ accepted �
 over-not o = never-accepted (o .answer .number-is) (λ z. omega arith)
 
 -- A refusal by the checks is no accepted call.
-pub refused-not : (ns : List ℕ) (o : Outcome) {r : Answer} → member 0 ns ≡ false → member 12 ns ≡ false → Gives ns o → (o ≡ Accepted → ⊥) → Said r (numberOf o) 0 noGroup → r ≡ accepted → ⊥
+pub refused-not : (ns : List ℕ) (o : Outcome) {r : Answer} → member 0 ns ≡ false → member 12 ns ≡ false → Gives ns o
+    → (o ≡ Accepted → ⊥) → SaidBy o r → r ≡ accepted → ⊥
 refused-not ns o z t g n s e = n (ap (λ (x : Answer). x .outcome) (sym (said-is ns o z t g s) ∙ e))
 
 -- ---- A screen.

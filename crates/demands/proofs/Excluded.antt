@@ -6,7 +6,7 @@ use Prim.Native.Nat.{ℕ, _<_}
 use native.Mathlib.Omega.{arith}
 use lib.IntN.{ℤ}
 use lib.ListN.{length}
-use Rattle.answer.specs.Answer.{noGroup, Said, accepted}
+use Rattle.answer.specs.Answer.{SaidBy, refusal, accepted}
 use Rattle.answer.specs.declared.Outcome.the-variants.{Accepted}
 use Rattle.answer.specs.declared.Answer.{Answer}
 use Rattle.bits.specs.Field.{OneBit}
@@ -73,5 +73,5 @@ module _ {before after : Lent} {b : ℕ} {r : Answer} (e : TakeEnds b before aft
   flow-dropped run a h w c j u n q d = d (call-confined run e a h w c j u n q)
 
   -- One that tests 11 after 12: a lent flow that doesn't fit is refused with 11, whatever the changed book's excess.
-  pub eleven-first : takeCheck (before .book) (length (before .flow)) (length (before .table)) b ≡ Accepted → (Fits C (C .limit) (on (before .flow)) → ⊥) → Said r 11 0 noGroup
+  pub eleven-first : takeCheck (before .book) (length (before .flow)) (length (before .table)) b ≡ Accepted → (Fits C (C .limit) (on (before .flow)) → ⊥) → SaidBy (refusal 11) r
   eleven-first = call-unfit e

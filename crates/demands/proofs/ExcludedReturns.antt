@@ -4,7 +4,7 @@ use mathlib.Core.Bool.{true}
 use Prim.Native.Nat.{ℕ, _<_}
 use native.Mathlib.Omega.{arith}
 use lib.ListN.{length}
-use Rattle.answer.specs.Answer.{numberOf, noGroup, Said, accepted}
+use Rattle.answer.specs.Answer.{SaidBy, refusal, accepted}
 use Rattle.answer.specs.declared.Outcome.{Outcome}
 use Rattle.answer.specs.declared.Outcome.the-variants.{Accepted}
 use Rattle.answer.specs.declared.Answer.{Answer}
@@ -55,14 +55,14 @@ module _ {before after : Lent} {b : ℕ} {r : Answer} (e : BackEnds b before aft
 
   -- One that tests 11 before 17: a branch in service is refused with 17, whatever the flow.
   pub seventeen-first : Passed (before .book) (length (before .flow)) (length (before .table)) → b < branchesIn (before .book) → C .served b ≡ true
-      → Said r 17 0 noGroup
+      → SaidBy (refusal 17) r
   seventeen-first p there on-now =
       let bs = before .book in
       let c = by-status bs (length (before .flow)) (length (before .table)) b 1 17 (passing _ _ _ p) there (branchAt bs b) (formIn bs) (busesIn bs) refl refl refl
       (served-status bs b there on-now) in
-      subst (λ (o : Outcome). Said r (numberOf o) 0 noGroup) (sym c) (call-first e (λ q. refusal-stands 17 (c ∙ q)))
+      subst (λ (o : Outcome). SaidBy o r) (sym c) (call-first e (λ q. refusal-stands 17 (c ∙ q)))
 
   -- One that accepts a flow that doesn't fit: past the checks it is refused with 11.
   pub eleven-after : backCheck (before .book) (length (before .flow)) (length (before .table)) b ≡ Accepted
-      → (Fits C (C .limit) (on (before .flow)) → ⊥) → Said r 11 0 noGroup
+      → (Fits C (C .limit) (on (before .flow)) → ⊥) → SaidBy (refusal 11) r
   eleven-after = call-unfit e

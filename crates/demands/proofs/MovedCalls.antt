@@ -8,7 +8,7 @@ use lib.IntN.{ℤ, pos}
 use Rattle.answer.specs.declared.Outcome.{Outcome}
 use Rattle.answer.specs.declared.Outcome.the-variants.{Accepted}
 use Rattle.answer.specs.declared.Answer.{Answer}
-use Rattle.answer.specs.Answer.{numberOf, noGroup, Said}
+use Rattle.answer.specs.Answer.{SaidBy}
 use Rattle.bits.specs.Field.{setBit}
 use Rattle.layout.specs.declared.Form.{Form}
 use Rattle.layout.specs.Layout.{branchesIn, statusBit}
@@ -53,7 +53,7 @@ module _ {bs : List ℕ} {f : Form} {room room′ : List ℕ} (ok : checkOf bs �
   module _ {flow : List ℤ} {table : List ℕ} {after : Lent} {r : Answer} where
     pub screen-moved : ScreenEnds (lent moved flow table) after r → ScreenEnds (lent bs flow table) (beside bs after) r
     screen-moved (refuses n a k) =
-        refuses (λ q. n (check-moved _ _ ∙ q)) (subst (λ (o : Outcome). Said r (numberOf o) 0 noGroup) (check-moved _ _) a) (ap (beside bs) k)
+        refuses (λ q. n (check-moved _ _ ∙ q)) (subst (λ (o : Outcome). SaidBy o r) (check-moved _ _) a) (ap (beside bs) k)
     screen-moved (overloads c o k) = overloads (sym (check-moved _ _) ∙ c) (subst (λ (C : Case). OverloadSaid C r) (m .same-case) o)
         (ap (beside bs) k)
     screen-moved (accepts c a s) = accepts (sym (check-moved _ _) ∙ c) a (record {
@@ -75,7 +75,7 @@ module _ {bs : List ℕ} {f : Form} {room room′ : List ℕ} (ok : checkOf bs �
       → check ≡ check′ → C ≡ C′ → D ≡ D′ → (check′ ≡ Accepted → X → (bs′ : List ℕ) × Y bs′)
       → Ends check C D X (lent moved flow table) after r → (bs′ : List ℕ) × Ends check′ C′ D′ (Y bs′) (lent bs flow table) (beside bs′ after) r
   ends-moved {r = r} Y e c d did (call.refuses n a k) =
-      (bs, call.refuses (λ q. n (e ∙ q)) (subst (λ (o : Outcome). Said r (numberOf o) 0 noGroup) e a) (ap (beside bs) k))
+      (bs, call.refuses (λ q. n (e ∙ q)) (subst (λ (o : Outcome). SaidBy o r) e a) (ap (beside bs) k))
   ends-moved {flow = flow} Y e c d did (call.unfit q n a k) =
       (bs, call.unfit (sym e ∙ q) (λ h. n (subst (λ (C : Case). Fits C (C .limit) (on flow)) (sym c) h)) a (ap (beside bs) k))
   ends-moved {flow = flow} {r = r} Y e c d did (call.overloads q h o k) = (

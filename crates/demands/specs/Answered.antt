@@ -4,11 +4,13 @@ use mathlib.Core.Bool.{true}
 use mathlib.Core.List.{List, _∷_}
 use Prim.Native.Nat.{ℕ}
 use Rattle.rows.specs.Row.{member}
-use Rattle.answer.specs.Answer.{numberOf, noGroup, Said, accepted}
+use Rattle.answer.specs.Answer.{numberOf, placeOf, hasPlace, placed, SaidBy, accepted}
 use Rattle.answer.specs.declared.Answer.{Answer}
 
--- The number is 0, an accepted call, or one of these; all but 12 carry shortage 0 and an empty group; a refusal keeps what was lent.
+-- The number is 0, an accepted call, or one of these; all but 12 carry shortage 0 and an empty group; an answer has a place exactly if its number
+-- is 4 or 5; a refusal keeps what was lent.
 pub record Answered (numbers : List ℕ) (kept : Type 0) (r : Answer) : Type 0 where
   pub given : member (numberOf (r .outcome)) (0 ∷ numbers) ≡ true
-  pub silent : (numberOf (r .outcome) ≡ 12 → ⊥) → Said r (numberOf (r .outcome)) 0 noGroup
+  pub silent : (numberOf (r .outcome) ≡ 12 → ⊥) → SaidBy (r .outcome) r
+  pub place-given : hasPlace (placeOf (r .outcome)) ≡ member (numberOf (r .outcome)) placed
   pub refused-keeps : (r ≡ accepted → ⊥) → kept

@@ -1,3 +1,4 @@
 pub mod Answered
+pub mod WhereWrong
 pub mod Same
 pub mod Run

@@ -12,6 +12,8 @@ use Rattle.rows.specs.Row.{every, some, upTo, headed}
 use Rattle.rows.specs.Bit.{has, bitAt}
 use Rattle.rows.specs.Sum.{over, sum}
 use Rattle.answer.specs.Answer.{numberOf, noGroup, Said, overloaded, settled}
+use Rattle.answer.specs.declared.Place.{Place}
+use Rattle.answer.specs.declared.Place.the-variants.{Nowhere}
 use Rattle.answer.specs.declared.Outcome.the-variants.{Accepted}
 use Rattle.answer.specs.declared.Answer.{Answer}
 use Rattle.rows.proofs.Row.{every-at}
@@ -41,6 +43,7 @@ use Rattle.state.proofs.OneOverload.{overloaded-same, fits-not-over}
 use Rattle.screen.specs.Promise.{screenCheck, Screened, ScreenEnds, refuses, overloads, accepts}
 use Rattle.outage.specs.Promise.{takeCheck, TakenOut, TakeEnds}
 use Rattle.meters.specs.Registers.{buses, injection, tooFar, answerTo}
+use Rattle.meters.proofs.Given.{meter-nowhere}
 use Rattle.demands.specs.Run.{Run, taken}
 use Rattle.demands.proofs.Ends.{is-accepted}
 use Rattle.demands.proofs.Calls.{call-true}
@@ -197,7 +200,8 @@ row-sound (keeps b k v group) t =
     let t₂ = and-right _ _ t₁ in
     λ flow table after r run e. keeps-all b (well-sound b (and-left _ _ t)) k (ltb-true _ _ (and-left _ _ t₁)) (and-left _ _ t₂) run e v group (and-right _ _ t₂)
 row-sound (meters R space number output) t = λ left r m. record {
-  answer = subst (λ (n : ℕ). Said r n 0 noGroup) (eqb-true _ _ (and-left _ _ t)) (m .answer);
+  answer = subst (λ (n : ℕ). Said r n 0 noGroup Nowhere) (eqb-true _ _ (and-left _ _ t))
+      (subst (λ (p : Place). Said r (numberOf (answerTo R (length space))) 0 noGroup p) (meter-nowhere R (length space)) (m .answer));
   output-is = m .output ∙ same-sound _ _ (and-right _ _ t);
 }
 

@@ -4,7 +4,9 @@ use mathlib.Core.List.{List, [], _∷_}
 use Prim.Native.Nat.{ℕ, _*_, _≤_, _<_}
 use lib.IntN.{ℤ}
 use lib.ListN.{length, getD, take}
-use Rattle.answer.specs.Answer.{Said, noGroup}
+use Rattle.answer.specs.Answer.{Said, SaidBy, noGroup}
+use Rattle.answer.specs.declared.Place.the-variants.{Nowhere}
+use Rattle.answer.specs.declared.Outcome.the-variants.{Accepted}
 use Rattle.answer.specs.declared.Answer.{Answer}
 use Rattle.bits.specs.Field.{setBit}
 use Rattle.layout.specs.Book.{Book, count, inForm}
@@ -49,24 +51,24 @@ pub data Row : Type 0 where
 
 -- What a screen of the book b then leaves.
 pub record Shows (b : Book) (sights : List Sight) (before after : Lent) (r : Answer) : Type 0 where
-  pub answer : Said r 0 0 noGroup
+  pub answer : SaidBy Accepted r
   pub one-each : length sights ≡ count b
   pub records : (k : ℕ) → k < count b → take 20 (recordAt (after .table) k) ≡ sightBytes (getD sights k out)
   pub beyond : Beyond (caseOf b) before after
 
 pub record Refuses (v : ℕ) (group : List ℕ) (before after : Lent) (r : Answer) : Type 0 where
-  pub answer : Said r 12 v (groupBytes group)
+  pub answer : Said r 12 v (groupBytes group) Nowhere
   pub kept : after ≡ before
 
 -- What a call that makes the book B the book D, in the form of B, then leaves.
 pub record Takes (B D : Book) (sights : List Sight) (before after : Lent) (r : Answer) : Type 0 where
-  pub answer : Said r 0 0 noGroup
+  pub answer : SaidBy Accepted r
   pub book-is : after .book ≡ encode (inForm (B .form) D)
   pub one-each : length sights ≡ count B
   pub records : (k : ℕ) → k < count B → take 20 (recordAt (after .table) k) ≡ sightBytes (getD sights k out)
 
 pub record Leaves (number : ℕ) (output left : List ℤ) (r : Answer) : Type 0 where
-  pub answer : Said r number 0 noGroup
+  pub answer : Said r number 0 noGroup Nowhere
   pub output-is : left ≡ output
 
 -- Any result that the promise allows on the encoded book, lent enough space, is as the row says.

@@ -11,7 +11,7 @@ use Rattle.rows.proofs.Row.{some-same}
 use Rattle.answer.specs.declared.Outcome.{Outcome}
 use Rattle.answer.specs.declared.Outcome.the-variants.{Accepted}
 use Rattle.answer.specs.declared.Answer.{Answer}
-use Rattle.answer.specs.Answer.{numberOf, noGroup, Said, bare, refusal}
+use Rattle.answer.specs.Answer.{SaidBy, bare, refusal}
 use Rattle.answer.proofs.Refusals.{past, past-both, stands, leaves}
 use Rattle.answer.proofs.Numbers.{Gives, gives-if, gives-then, gives-said, said-is, inside, gives-more}
 use Rattle.bits.specs.Field.{Bytes}
@@ -41,7 +41,7 @@ move-gives bs f room =
     (gives-if moveNumbers (wouldLose f (ratingsDiffer (bookOf bs))) 18 _ refl
     (gives-if moveNumbers (ltb room (bytesFor f (busesIn bs) (branchesIn bs))) 8 Accepted refl tt))
 
-pub move-said : (bs : List ℕ) (f : Form) (room : ℕ) {r : Answer} → r ≡ bare (moveCheck bs f room) → Said r (numberOf (moveCheck bs f room)) 0 noGroup
+pub move-said : (bs : List ℕ) (f : Form) (room : ℕ) {r : Answer} → r ≡ bare (moveCheck bs f room) → SaidBy (moveCheck bs f room) r
 unfolding member
 move-said bs f room = gives-said moveNumbers (moveCheck bs f room) refl refl (move-gives bs f room)
 

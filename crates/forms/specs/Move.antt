@@ -9,7 +9,7 @@ use Rattle.rows.specs.Row.{some}
 use Rattle.answer.specs.declared.Outcome.{Outcome}
 use Rattle.answer.specs.declared.Outcome.the-variants.{Accepted}
 use Rattle.answer.specs.declared.Answer.{Answer}
-use Rattle.answer.specs.Answer.{numberOf, noGroup, Said, refuseIf, andThen, settled}
+use Rattle.answer.specs.Answer.{SaidBy, refuseIf, andThen, settled}
 use Rattle.bits.specs.Field.{Bytes}
 use Rattle.layout.specs.declared.Form.{Form}
 use Rattle.layout.specs.declared.Form.the-variants.{Old, New}
@@ -45,6 +45,6 @@ moveNumbers = 18 ∷ 8 ∷ checkNumbers
 -- The answer to moving bs to form f into lent bytes, and every byte that these then hold.
 pub record BookMoved (bs : List ℕ) (f : Form) (out out′ : List ℕ) (r : Answer) : Type 0 where
   pub bytes : Bytes bs
-  pub answer : Said r (numberOf (moveCheck bs f (length out))) 0 noGroup
+  pub answer : SaidBy (moveCheck bs f (length out)) r
   pub left : out′
       ≡ settled (moveCheck bs f (length out)) out (encode (inForm f (bookOf bs)) ++ drop (bytesFor f (busesIn bs) (branchesIn bs)) out)

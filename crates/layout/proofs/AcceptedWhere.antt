@@ -10,16 +10,15 @@ use lib.ListN.{length}
 use Rattle.rows.specs.Sum.{all, over}
 use Rattle.answer.specs.declared.Outcome.{Outcome}
 use Rattle.answer.specs.declared.Outcome.the-variants.{Accepted, Refused, Overloaded}
-use Rattle.answer.specs.Answer.{numberOf}
+use Rattle.answer.specs.declared.Place.{Place}
+use Rattle.answer.specs.Answer.{numberOf, placeOf}
 use Rattle.rows.proofs.Row.{either-false}
-use Rattle.answer.proofs.Refusals.{past, past-both}
+use Rattle.answer.proofs.Refusals.{past, past-at, past-both}
 use Rattle.quantity.specs.Signed.{posPart, negPart}
-use Rattle.layout.specs.declared.Fault.{Fault}
-use Rattle.layout.specs.declared.Fault.the-variants.{Sound, At}
 use Rattle.layout.specs.Book.{Book}
 use Rattle.layout.specs.Fault.{firstFault}
 use Rattle.layout.specs.Layout.{bytesFor, busesIn, branchesIn, factorIn, formIn, spareIn, injectionAt, tailIn, bookOf}
-use Rattle.layout.specs.Check.{outside, refuseAt, balances, busFaultAt, branchFaultAt, headCheck, bodyCheck, checkOf, book, refused, decided, decode}
+use Rattle.layout.specs.Check.{outside, balances, busFaultAt, branchFaultAt, headCheck, bodyCheck, checkOf, book, refused, decided, decode}
 use Rattle.layout.proofs.Faults.{first-sound, sound-first}
 
 pub record InRange (n m factor : ℕ) : Type 0 where
@@ -53,10 +52,6 @@ range-in n m factor r =
       le-ltb 1000 factor (r .small-factor),
     )
 
-pub past-fault : (w : Fault) (n : ℕ) (next : Outcome) → refuseAt w n next ≡ Accepted → (w ≡ Sound) × (next ≡ Accepted)
-past-fault Sound n next e = (refl, e)
-past-fault (At i j) n next e = let z : _≡_ {A = ℕ} 0 1 = cc in absurd (omega arith)
-
 pub record Valid (bs : List ℕ) : Type 0 where
   pub range : InRange (busesIn bs) (branchesIn bs) (factorIn bs)
   pub spare : spareIn bs ≡ 0
@@ -74,8 +69,8 @@ accepted-valid bs e =
     let p₂ = past (outside (busesIn bs) (branchesIn bs) (factorIn bs)) 2 _ (p₁ .1) in
     let p₃ = past (not (eqb (spareIn bs) 0)) 3 _ (p₂ .1) in
     let p₄ = past (not (eqb (length bs) (bytesFor (formIn bs) (busesIn bs) (branchesIn bs)))) 1 _ (p₃ .1) in
-    let q₁ = past-fault (firstFault (busFaultAt bs) (busesIn bs)) 4 _ (h .1) in
-    let q₂ = past-fault (firstFault (branchFaultAt bs) (branchesIn bs)) 5 _ (q₁ .1) in
+    let q₁ = past-at (firstFault (busFaultAt bs) (busesIn bs)) 4 _ (h .1) in
+    let q₂ = past-at (firstFault (branchFaultAt bs) (branchesIn bs)) 5 _ (q₁ .1) in
     let q₃ = past (not (eqb (tailIn bs) 0)) 6 _ (q₂ .1) in
     let q₄ = past (not (balances (busesIn bs) (injectionAt bs))) 7 _ (q₃ .1) in
     record {
@@ -118,12 +113,12 @@ pub decoded : (bs : List ℕ) (b : Book) → decode bs ≡ book b → (checkOf b
 unfolding decode
 decoded bs b e = taken (checkOf bs) (bookOf bs) b e
 
--- A refused book is refused by the number of the first test that fails.
-pub decode-refused : (bs : List ℕ) (n : ℕ) → decode bs ≡ refused n → numberOf (checkOf bs) ≡ n
+-- A refused book is refused by the number and the place of the first test that fails.
+pub decode-refused : (bs : List ℕ) (n : ℕ) (w : Place) → decode bs ≡ refused n w → (numberOf (checkOf bs) ≡ n) × (placeOf (checkOf bs) ≡ w)
 unfolding decode
-decode-refused bs n e = go (checkOf bs) e
+decode-refused bs n w e = go (checkOf bs) e
   where
-    go : (o : Outcome) → decided o (bookOf bs) ≡ refused n → numberOf o ≡ n
+    go : (o : Outcome) → decided o (bookOf bs) ≡ refused n w → (numberOf o ≡ n) × (placeOf o ≡ w)
     go Accepted q = let z : _≡_ {A = ℕ} 0 1 = cc in absurd (omega arith)
-    go (Refused why) q = cc
-    go (Overloaded kw) q = cc
+    go (Refused why) q = (cc, cc)
+    go (Overloaded kw) q = (cc, cc)

@@ -9,6 +9,7 @@ use Rattle.rows.specs.Bit.{bitAt}
 use Rattle.rows.specs.Sum.{over}
 use Rattle.bits.specs.Field.{field, withBit, setBit, put}
 use Rattle.bits.specs.Fields.{putItems}
+use Rattle.answer.specs.declared.Place.the-variants.{Nowhere, At}
 use Rattle.layout.specs.declared.Form.the-variants.{Old, New}
 use Rattle.layout.specs.declared.Branch.{Branch}
 use Rattle.layout.specs.Book.{Book, inForm}
@@ -54,21 +55,21 @@ largest = (refl, refl)
 -- ---- refusals
 
 -- Under 4 bytes.
-short : decode (3 ∷ 1 ∷ 253 ∷ []) ≡ refused 1
+short : decode (3 ∷ 1 ∷ 253 ∷ []) ≡ refused 1 Nowhere
 unfolding decode checkOf
 short = refl
 
 -- No bus, before a header fill bit.
-no-bus : decode (0 ∷ 0 ∷ 0 ∷ 33 ∷ []) ≡ refused 2
+no-bus : decode (0 ∷ 0 ∷ 0 ∷ 33 ∷ []) ≡ refused 2 Nowhere
 unfolding decode checkOf field bitAt
 no-bus = refl
 
 -- A header fill bit, before the length. The first of the five of old is the layout bit: a new book without a branch has the old one's length.
-header-fill : decode (1 ∷ 0 ∷ 125 ∷ 1 ∷ []) ≡ refused 3
+header-fill : decode (1 ∷ 0 ∷ 125 ∷ 1 ∷ []) ≡ refused 3 Nowhere
 unfolding decode checkOf field bitAt
 header-fill = refl
 
-new-header-fill : decode (1 ∷ 0 ∷ 125 ∷ 17 ∷ []) ≡ refused 3
+new-header-fill : decode (1 ∷ 0 ∷ 125 ∷ 17 ∷ []) ≡ refused 3 Nowhere
 unfolding decode checkOf field bitAt
 new-header-fill = refl
 
@@ -77,31 +78,47 @@ unfolding decode checkOf bookOf firstFault busFault over upTo field bitAt
 new-book = refl
 
 -- A byte too few, before a minus zero.
-too-few : decode (1 ∷ 0 ∷ 125 ∷ 0 ∷ 128 ∷ 0 ∷ []) ≡ refused 1
+too-few : decode (1 ∷ 0 ∷ 125 ∷ 0 ∷ 128 ∷ 0 ∷ []) ≡ refused 1 Nowhere
 unfolding decode checkOf field bitAt
 too-few = refl
 
 -- A byte too many.
-too-many : decode (1 ∷ 0 ∷ 125 ∷ 0 ∷ 0 ∷ 0 ∷ 0 ∷ 0 ∷ []) ≡ refused 1
+too-many : decode (1 ∷ 0 ∷ 125 ∷ 0 ∷ 0 ∷ 0 ∷ 0 ∷ 0 ∷ []) ≡ refused 1 Nowhere
 unfolding decode checkOf field bitAt
 too-many = refl
 
 -- One bus at minus zero, before a tail fill bit.
-minus-zero : decode (1 ∷ 0 ∷ 125 ∷ 0 ∷ 128 ∷ 0 ∷ 1 ∷ []) ≡ refused 4
+minus-zero : decode (1 ∷ 0 ∷ 125 ∷ 0 ∷ 128 ∷ 0 ∷ 1 ∷ []) ≡ refused 4 (At 0 2)
 unfolding decode checkOf firstFault busFault field bitAt
 minus-zero = refl
 
 -- A branch from bus 0 to bus 0, before a tail fill bit.
-equal-ends : decode (2 ∷ 0 ∷ 253 ∷ 0 ∷ 0 ∷ 0 ∷ 0 ∷ 0 ∷ 0 ∷ 0 ∷ 0 ∷ 0 ∷ 0 ∷ 1 ∷ []) ≡ refused 5
+equal-ends : decode (2 ∷ 0 ∷ 253 ∷ 0 ∷ 0 ∷ 0 ∷ 0 ∷ 0 ∷ 0 ∷ 0 ∷ 0 ∷ 0 ∷ 0 ∷ 1 ∷ []) ≡ refused 5 (At 0 2)
 unfolding decode checkOf firstFault busFault branchFault field bitAt
 equal-ends = refl
 
+-- Of several faults the first item's, and in it the first field's: bus 1 at minus zero, bus 2 too large; then a second branch of equal ends whose kVA
+-- is too large, before a third that starts at no bus; and in the new form a second branch whose second kVA is below the first.
+first-bus-at-fault : decode (3 ∷ 0 ∷ 125 ∷ 0 ∷ 0 ∷ 0 ∷ 4 ∷ 0 ∷ 0 ∷ 30 ∷ 132 ∷ 130 ∷ []) ≡ refused 4 (At 1 2)
+unfolding decode checkOf firstFault busFault field bitAt
+first-bus-at-fault = refl
+
+first-field-at-fault : decode (2 ∷ 1 ∷ 253 ∷ 0 ∷ 0 ∷ 0 ∷ 0 ∷ 0 ∷ 0 ∷ 0 ∷ 1 ∷ 0 ∷ 0 ∷ 88 ∷ 16 ∷ 63 ∷ 255 ∷ 255 ∷ 6 ∷ 0 ∷ 0 ∷ 1 ∷ 96 ∷ [])
+    ≡ refused 5 (At 1 2)
+unfolding decode checkOf firstFault busFault branchFault field bitAt
+first-field-at-fault = refl
+
+new-second-below : decode (2 ∷ 1 ∷ 125 ∷ 16 ∷ 0 ∷ 0 ∷ 0 ∷ 0 ∷ 0 ∷ 0 ∷ 1 ∷ 0 ∷ 0 ∷ 80 ∷ 0 ∷ 6 ∷ 128 ∷ 2 ∷ 0 ∷ 0 ∷ 160 ∷ 0 ∷ 9 ∷ [])
+    ≡ refused 5 (At 1 4)
+unfolding decode checkOf firstFault busFault branchFault field bitAt
+new-second-below = refl
+
 -- A tail fill bit, before a sum of 1 kW.
-tail-fill : decode (1 ∷ 0 ∷ 125 ∷ 0 ∷ 0 ∷ 0 ∷ 9 ∷ []) ≡ refused 6
+tail-fill : decode (1 ∷ 0 ∷ 125 ∷ 0 ∷ 0 ∷ 0 ∷ 9 ∷ []) ≡ refused 6 Nowhere
 unfolding decode checkOf firstFault busFault field bitAt
 tail-fill = refl
 
 -- A sum of 1 kW.
-not-balanced : decode (1 ∷ 0 ∷ 125 ∷ 0 ∷ 0 ∷ 0 ∷ 8 ∷ []) ≡ refused 7
+not-balanced : decode (1 ∷ 0 ∷ 125 ∷ 0 ∷ 0 ∷ 0 ∷ 8 ∷ []) ≡ refused 7 Nowhere
 unfolding decode checkOf firstFault busFault over field bitAt
 not-balanced = refl

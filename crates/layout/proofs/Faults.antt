@@ -7,10 +7,10 @@ use native.Mathlib.Numerals.{add-one}
 use borrow.Author.Tests.{ltb-false, leb-false, eqb-true, eqb-false, le-ltb, lt-leb, eq-eqb, ne-eqb}
 use lib.Dec.{ltb, leb, eqb}
 use Rattle.rows.proofs.Sum.{side, below, equal, above}
+use Rattle.answer.specs.declared.Place.{Place}
+use Rattle.answer.specs.declared.Place.the-variants.{Nowhere, At}
 use Rattle.layout.specs.declared.Form.{Form}
 use Rattle.layout.specs.declared.Branch.{Branch}
-use Rattle.layout.specs.declared.Fault.{Fault}
-use Rattle.layout.specs.declared.Fault.the-variants.{Sound, At}
 use Rattle.layout.specs.Book.{GoodBranch}
 use Rattle.layout.specs.Form.{fields}
 use Rattle.layout.specs.Fault.{faultIf, busFault, branchFault, faultAt, orElse, firstFault}
@@ -88,11 +88,11 @@ branch-sound f n x g =
 
 -- ---- the first of many
 
-past-sound : (a b : Fault) → orElse a b ≡ Sound → (a ≡ Sound) × (b ≡ Sound)
-past-sound Sound b e = (refl, e)
+past-sound : (a b : Place) → orElse a b ≡ Nowhere → (a ≡ Nowhere) × (b ≡ Nowhere)
+past-sound Nowhere b e = (refl, e)
 past-sound (At i j) b e = let z : _≡_ {A = ℕ} 0 1 = cc in absurd (omega arith)
 
-no-fault : (i j : ℕ) → faultAt i j ≡ Sound → j ≡ 0
+no-fault : (i j : ℕ) → faultAt i j ≡ Nowhere → j ≡ 0
 no-fault i zero e = refl
 no-fault i (suc j) e = let z : _≡_ {A = ℕ} 0 1 = cc in absurd (omega arith)
 
@@ -108,15 +108,15 @@ pub record First (f : ℕ → ℕ) (n i j : ℕ) : Type 0 where
   pub before : (k : ℕ) → k < i → f k ≡ 0
 
 module _ (f : ℕ → ℕ) where
-  pub first-none : firstFault f 0 ≡ Sound
+  pub first-none : firstFault f 0 ≡ Nowhere
   unfolding firstFault
   first-none = refl
 
-  pub first-more : (k : ℕ) → firstFault f k ≡ Sound → f k ≡ 0 → firstFault f (k + 1) ≡ Sound
+  pub first-more : (k : ℕ) → firstFault f k ≡ Nowhere → f k ≡ 0 → firstFault f (k + 1) ≡ Nowhere
   unfolding firstFault
   first-more k e h = rw (add-one, e, h) refl
 
-  pub first-stops : (n k j : ℕ) → k < n → firstFault f k ≡ Sound → f k ≡ j → 0 < j → firstFault f n ≡ At k j
+  pub first-stops : (n k j : ℕ) → k < n → firstFault f k ≡ Nowhere → f k ≡ j → 0 < j → firstFault f n ≡ At k j
   unfolding firstFault
   first-stops zero k j l e h p = absurd (omega arith)
   first-stops (suc n) k j l e h p = elim (side k n) [
@@ -125,14 +125,14 @@ module _ (f : ℕ → ℕ) where
     | above u ↦ absurd (omega arith)
   ]
 
-  pub first-sound : (n : ℕ) → firstFault f n ≡ Sound → (k : ℕ) → k < n → f k ≡ 0
+  pub first-sound : (n : ℕ) → firstFault f n ≡ Nowhere → (k : ℕ) → k < n → f k ≡ 0
   unfolding firstFault
   first-sound zero e k h = absurd (omega arith)
   first-sound (suc n) e k h =
       let w = past-sound (firstFault f n) (faultAt n (f n)) e in
       elim (side k n) [ below u ↦ first-sound n (w .0) k u | equal u ↦ rw u (no-fault n (f n) (w .1)) | above u ↦ absurd (omega arith) ]
 
-  pub sound-first : (n : ℕ) → ((k : ℕ) → k < n → f k ≡ 0) → firstFault f n ≡ Sound
+  pub sound-first : (n : ℕ) → ((k : ℕ) → k < n → f k ≡ 0) → firstFault f n ≡ Nowhere
   unfolding firstFault
   sound-first zero h = refl
   sound-first (suc n) h = rw (sound-first n (λ k l. h k (omega arith)), h n (omega arith)) refl
@@ -143,7 +143,7 @@ module _ (f : ℕ → ℕ) where
   first-is zero i j e = let z : _≡_ {A = ℕ} 0 1 = cc in absurd (omega arith)
   first-is (suc n) i j e = go (firstFault f n) refl e (first-is n)
     where
-      here : (v : ℕ) → f n ≡ v → firstFault f n ≡ Sound → faultAt n v ≡ At i j → First f (suc n) i j
+      here : (v : ℕ) → f n ≡ v → firstFault f n ≡ Nowhere → faultAt n v ≡ At i j → First f (suc n) i j
       here zero h s q = let z : _≡_ {A = ℕ} 0 1 = cc in absurd (omega arith)
       here (suc v) h s q =
           let a : n ≡ i = cc in
@@ -155,8 +155,8 @@ module _ (f : ℕ → ℕ) where
             before = λ k l. first-sound n s k (omega arith);
           }
 
-      go : (r : Fault) → firstFault f n ≡ r → orElse r (faultAt n (f n)) ≡ At i j → ((i j : ℕ) → firstFault f n ≡ At i j → First f n i j) → First f (suc n) i j
-      go Sound s q rec = here (f n) refl s q
+      go : (r : Place) → firstFault f n ≡ r → orElse r (faultAt n (f n)) ≡ At i j → ((i j : ℕ) → firstFault f n ≡ At i j → First f n i j) → First f (suc n) i j
+      go Nowhere s q rec = here (f n) refl s q
       go (At a b) s q rec =
           let w = rec i j (s ∙ q) in
           record { there = omega (arith, w .there); its-field = w .its-field; a-field = w .a-field; before = w .before }

@@ -2,13 +2,13 @@
 use mathlib.Core.Path.{_≡_, refl, sym, _∙_}
 use Prim.Native.Nat.{ℕ, zero, suc, _+_, _<_, _≤_}
 use native.Mathlib.Omega.{arith}
-use Rattle.layout.specs.declared.Fault.the-variants.{Sound, At}
+use Rattle.answer.specs.declared.Place.the-variants.{Nowhere, At}
 use Rattle.layout.specs.Fault.{firstFault}
 use Rattle.layout.proofs.Faults.{first-none, first-more, first-stops}
 
 pub record Scanned (f : ℕ → ℕ) (n k : ℕ) : Type 0 where
   pub here : k ≤ n
-  pub sound : firstFault f k ≡ Sound
+  pub sound : firstFault f k ≡ Nowhere
 
 pub scan-start : (f : ℕ → ℕ) (n : ℕ) → Scanned f n 0
 scan-start f n = record { here = omega arith; sound = first-none f }
@@ -23,5 +23,5 @@ scan-stop f n k x l s e z = sym (first-stops f n k x l (s .sound) (sym e) (posit
     positive zero h = absurd (h refl)
     positive (suc v) h = omega arith
 
-pub scan-end : (f : ℕ → ℕ) (n k : ℕ) → n ≤ k → Scanned f n k → Sound ≡ firstFault f n
+pub scan-end : (f : ℕ → ℕ) (n k : ℕ) → n ≤ k → Scanned f n k → Nowhere ≡ firstFault f n
 scan-end f n k h s = let e : k ≡ n = omega arith in sym (rw e at (s .sound))

@@ -1,23 +1,16 @@
 -- Which numbers the tests of a book may give.
-use mathlib.Core.Path.{_≡_, refl}
-use mathlib.Core.Bool.{true, not}
+use mathlib.Core.Path.{refl}
+use mathlib.Core.Bool.{not}
 use mathlib.Core.List.{List}
 use Prim.Native.Nat.{ℕ}
 use lib.Dec.{ltb, eqb}
 use lib.ListN.{length}
 use Rattle.rows.specs.Row.{member}
-use Rattle.answer.specs.declared.Outcome.{Outcome}
 use Rattle.answer.specs.declared.Outcome.the-variants.{Accepted}
-use Rattle.answer.proofs.Numbers.{Gives, gives-if, gives-then}
-use Rattle.layout.specs.declared.Fault.{Fault}
-use Rattle.layout.specs.declared.Fault.the-variants.{Sound, At}
+use Rattle.answer.proofs.Numbers.{Gives, gives-if, gives-at, gives-then}
 use Rattle.layout.specs.Fault.{firstFault}
 use Rattle.layout.specs.Layout.{bytesFor, busesIn, branchesIn, factorIn, formIn, spareIn, injectionAt, tailIn}
-use Rattle.layout.specs.Check.{outside, refuseAt, balances, busFaultAt, branchFaultAt, headCheck, bodyCheck, checkOf, checkNumbers}
-
-pub gives-at : (ns : List ℕ) (w : Fault) (n : ℕ) (next : Outcome) → member n ns ≡ true → Gives ns next → Gives ns (refuseAt w n next)
-gives-at ns Sound n next h g = g
-gives-at ns (At i j) n next h g = h
+use Rattle.layout.specs.Check.{outside, balances, busFaultAt, branchFaultAt, headCheck, bodyCheck, checkOf, checkNumbers}
 
 pub check-gives : (bs : List ℕ) → Gives checkNumbers (checkOf bs)
 unfolding checkOf member

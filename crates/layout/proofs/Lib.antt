@@ -11,6 +11,7 @@ pub mod FirstFault
 pub mod Balanced
 pub mod NumbersABranch
 pub mod Given
+pub mod Places
 pub mod Examples
 pub mod FieldsPut
 pub mod FieldsRead

@@ -7,12 +7,12 @@ use lib.IntN.{ℤ}
 use lib.ListN.{length}
 use Rattle.rows.specs.Row.{nth}
 use Rattle.rows.specs.Sum.{all, over}
+use Rattle.answer.specs.declared.Place.{Place}
+use Rattle.answer.specs.declared.Place.the-variants.{Nowhere}
 use Rattle.answer.specs.declared.Outcome.{Outcome}
 use Rattle.answer.specs.declared.Outcome.the-variants.{Accepted, Refused, Overloaded}
-use Rattle.answer.specs.Answer.{refusal, refuseIf, andThen}
+use Rattle.answer.specs.Answer.{refuseIf, refuseAt, andThen}
 use Rattle.quantity.specs.Signed.{posPart, negPart}
-use Rattle.layout.specs.declared.Fault.{Fault}
-use Rattle.layout.specs.declared.Fault.the-variants.{Sound, At}
 use Rattle.layout.specs.Fault.{busFault, branchFault, firstFault}
 use Rattle.layout.specs.Book.{Book}
 use Rattle.layout.specs.Layout.{bytesFor, busesIn, branchesIn, factorIn, formIn, spareIn, busAt, injectionAt, branchAt, tailIn, bookOf}
@@ -20,11 +20,6 @@ use Rattle.layout.specs.Layout.{bytesFor, busesIn, branchesIn, factorIn,
 -- A count or the power factor is outside its range.
 abbrev pub outside : ℕ → ℕ → ℕ → Bool
 outside n m factor = ltb n 1 || (ltb 128 n || (ltb 256 m || (ltb factor 1 || ltb 1000 factor)))
-
--- The number that a fault is refused by.
-abbrev pub refuseAt : Fault → ℕ → Outcome → Outcome
-refuseAt Sound number next = next
-refuseAt (At item field) number next = refusal number
 
 -- What enters over n buses is what leaves.
 abbrev pub balances : ℕ → (ℕ → ℤ) → Bool
@@ -58,15 +53,15 @@ checkOf bs = andThen (headCheck bs) (bodyCheck bs)
 abbrev pub checkNumbers : List ℕ
 checkNumbers = 1 ∷ 2 ∷ 3 ∷ 4 ∷ 5 ∷ 6 ∷ 7 ∷ []
 
--- A book, or the number of the refusal.
+-- A book, or the number of the refusal and its place.
 pub data Decoded : Type 0 where
   book : Book → Decoded
-  refused : ℕ → Decoded
+  refused : ℕ → Place → Decoded
 
 abbrev pub decided : Outcome → Book → Decoded
 decided Accepted b = book b
-decided (Refused why) b = refused (why .number)
-decided (Overloaded kw) b = refused 12
+decided (Refused why) b = refused (why .number) (why .place)
+decided (Overloaded kw) b = refused 12 Nowhere
 
 unfoldable pub decode : List ℕ → Decoded
 decode bs = decided (checkOf bs) (bookOf bs)

@@ -1,11 +1,11 @@
--- Faults of buses and branches: the field at fault of one item, and the first fault of many.
+-- Faults of buses and branches: the field at fault of one item, and the place of the first fault of many.
 use mathlib.Core.Bool.{Bool, true, false, _&&_}
 use Prim.Native.Nat.{ℕ, zero, suc}
 use lib.Dec.{ltb, leb, eqb}
+use Rattle.answer.specs.declared.Place.{Place}
+use Rattle.answer.specs.declared.Place.the-variants.{Nowhere, At}
 use Rattle.layout.specs.declared.Form.{Form}
 use Rattle.layout.specs.declared.Branch.{Branch}
-use Rattle.layout.specs.declared.Fault.{Fault}
-use Rattle.layout.specs.declared.Fault.the-variants.{Sound, At}
 use Rattle.layout.specs.Form.{fields}
 
 -- Fields are numbered from 1, and 0 is no fault.
@@ -30,15 +30,15 @@ branchFault f n x =
     (faultIf (ltb 1 (x .status)) (fields f)
     0))))))
 
-abbrev pub faultAt : ℕ → ℕ → Fault
-faultAt item zero = Sound
+abbrev pub faultAt : ℕ → ℕ → Place
+faultAt item zero = Nowhere
 faultAt item (suc field) = At item (suc field)
 
-abbrev pub orElse : Fault → Fault → Fault
-orElse Sound next = next
+abbrev pub orElse : Place → Place → Place
+orElse Nowhere next = next
 orElse (At item field) next = At item field
 
--- The first fault of items 0, 1, .., n - 1.
-unfoldable pub firstFault : (ℕ → ℕ) → ℕ → Fault
-firstFault f zero = Sound
+-- The first fault of items 0, 1, .., n - 1: the first offending item, and in it the first offending field.
+unfoldable pub firstFault : (ℕ → ℕ) → ℕ → Place
+firstFault f zero = Nowhere
 firstFault f (suc n) = orElse (firstFault f n) (faultAt n (f n))

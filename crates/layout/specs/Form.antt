@@ -18,7 +18,7 @@ formBit Old = 0
 formBit New = 1
 
 -- All that differs: the new form has x before the rest.
-abbrev pub inNew : Form → ℕ → List ℕ → List ℕ
+abbrev pub inNew : {A : Type 0} → Form → A → List A → List A
 inNew Old x rest = rest
 inNew New x rest = x ∷ rest
 

@@ -43,12 +43,6 @@ pub struct Branch {
     pub status: u32,
 }
 
-// The first fault in layout order: which bus or branch, and which of its fields, numbered from 1.
-pub enum Fault {
-    Sound,
-    At { item: usize, field: u8 },
-}
-
 // The field of a bus that is at fault, and 0 where none is.
 pub fn bus_fault(x: Bus) -> u8
     ensures { λ r. ⌜ r ≡ busFault (x .sign) (x .size) ⌝ }

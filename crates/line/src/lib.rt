@@ -11,6 +11,7 @@ mod writing;
 
 pub use answers::put_answer;
 pub use answers::put_group;
+pub use answers::put_place;
 pub use whole::answer_line;
 pub use whole::bytes_line;
 pub use whole::hex_line;

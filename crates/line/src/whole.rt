@@ -16,12 +16,12 @@ use crate::put_signeds;
 use crate::write_line;
 use answer::Answer;
 
-// A word and the answer: its number, the shortage, the group.
+// A word and the answer: its number, the shortage, the group, the place.
 pub fn answer_line(word: &[u8], answer: Answer) -> usize
     requires { ⌜ length (now word) ≤ 10 ⌝ }
     ensures { λ r. ⌜ r ≡ length (now (word .entry) ++ answerText answer) ⌝ }
 {
-    let mut out = [0u8; 2762];
+    let mut out = [0u8; 2804];
     let end = put_answer(&mut out, word, answer);
     write_line(&mut out, end);
     end

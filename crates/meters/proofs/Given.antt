@@ -7,10 +7,11 @@ use lib.Dec.{ltb, leb, eqb}
 use lib.IntN.{ℤ, natAbs}
 use lib.ListN.{length}
 use Rattle.rows.specs.Row.{member, some}
+use Rattle.answer.specs.declared.Place.the-variants.{Nowhere}
 use Rattle.answer.specs.declared.Outcome.the-variants.{Accepted}
 use Rattle.answer.specs.declared.Answer.{Answer}
-use Rattle.answer.specs.Answer.{numberOf, noGroup, Said, bare}
-use Rattle.answer.proofs.Numbers.{Gives, gives-if, gives-then, gives-said, said-is}
+use Rattle.answer.specs.Answer.{placeOf, SaidBy, bare}
+use Rattle.answer.proofs.Numbers.{Gives, gives-if, gives-then, gives-nowhere, gives-said, said-is}
 use Rattle.meters.specs.Registers.{Registers, buses, supplied, shape, tooFar, answerTo}
 use Rattle.meters.specs.Promise.{meterNumbers, Metered}
 
@@ -29,9 +30,14 @@ meter-gives R room =
     (gives-if meterNumbers (ltb 1000000 (natAbs (supplied R))) 16 Accepted refl tt)))
 
 module _ (R : Registers) where
-  pub meter-said : (room : ℕ) {r : Answer} → r ≡ bare (answerTo R room) → Said r (numberOf (answerTo R room)) 0 noGroup
+  pub meter-said : (room : ℕ) {r : Answer} → r ≡ bare (answerTo R room) → SaidBy (answerTo R room) r
   unfolding member
   meter-said room = gives-said meterNumbers (answerTo R room) refl refl (meter-gives R room)
+
+  -- Readings have no place in a book.
+  pub meter-nowhere : (room : ℕ) → placeOf (answerTo R room) ≡ Nowhere
+  unfolding member
+  meter-nowhere room = gives-nowhere meterNumbers (answerTo R room) refl refl (meter-gives R room)
 
   pub meter-answer : {out out′ : List ℤ} {r : Answer} → Metered R out out′ r → r ≡ bare (answerTo R (length out))
   unfolding member

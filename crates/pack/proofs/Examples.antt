@@ -2,8 +2,9 @@
 use mathlib.Core.Path.{_≡_, refl}
 use mathlib.Core.List.{[], _∷_}
 use lib.IntN.{pos, negsuc}
+use Rattle.answer.specs.declared.Place.the-variants.{At}
 use Rattle.answer.specs.declared.Outcome.the-variants.{Accepted}
-use Rattle.answer.specs.Answer.{refusal}
+use Rattle.answer.specs.Answer.{refusal, refusalAt}
 use Rattle.rows.specs.Sum.{over}
 use Rattle.layout.specs.declared.Form.the-variants.{Old, New}
 use Rattle.layout.specs.Fault.{busFault, branchFault, firstFault}
@@ -19,15 +20,19 @@ few-numbers : writeCheck Old 1 1 1000 (pos 1000001 ∷ []) (0 ∷ 0 ∷ 0 ∷ []
 unfolding writeCheck
 few-numbers = refl
 
--- The least number of 32 bits, before a status of 2.
-least-number : writeCheck Old 2 1 1000 (negsuc 2147483647 ∷ pos 0 ∷ []) (0 ∷ 1 ∷ 0 ∷ 2 ∷ []) 0 ≡ refusal 4
+-- The least number of 32 bits, before a status of 2: the size of bus 0.
+least-number : writeCheck Old 2 1 1000 (negsuc 2147483647 ∷ pos 0 ∷ []) (0 ∷ 1 ∷ 0 ∷ 2 ∷ []) 0 ≡ refusalAt 4 (At 0 2)
 unfolding writeCheck firstFault busFault
 least-number = refl
 
--- A status of 2, before a sum of 1 kW.
-status-two : writeCheck Old 2 1 1000 (pos 1 ∷ pos 0 ∷ []) (0 ∷ 1 ∷ 0 ∷ 2 ∷ []) 0 ≡ refusal 5
+-- A status of 2, before a sum of 1 kW: the fourth field of an old branch, and the fifth of a new one.
+status-two : writeCheck Old 2 1 1000 (pos 1 ∷ pos 0 ∷ []) (0 ∷ 1 ∷ 0 ∷ 2 ∷ []) 0 ≡ refusalAt 5 (At 0 4)
 unfolding writeCheck firstFault busFault branchFault
 status-two = refl
+
+new-status-two : writeCheck New 2 1 1000 (pos 1 ∷ pos 0 ∷ []) (0 ∷ 1 ∷ 0 ∷ 0 ∷ 2 ∷ []) 0 ≡ refusalAt 5 (At 0 5)
+unfolding writeCheck firstFault busFault branchFault
+new-status-two = refl
 
 -- A sum of 1 kW, before an output that is too short.
 not-balanced : writeCheck Old 1 0 1000 (pos 1 ∷ []) [] 0 ≡ refusal 7
@@ -48,7 +53,7 @@ new-few-numbers : writeCheck New 2 1 1000 (pos 0 ∷ pos 0 ∷ []) (0 ∷ 1 ∷ 
 unfolding writeCheck
 new-few-numbers = refl
 
-new-below : writeCheck New 2 1 1000 (pos 1 ∷ pos 0 ∷ []) (0 ∷ 1 ∷ 5 ∷ 4 ∷ 1 ∷ []) 20 ≡ refusal 5
+new-below : writeCheck New 2 1 1000 (pos 1 ∷ pos 0 ∷ []) (0 ∷ 1 ∷ 5 ∷ 4 ∷ 1 ∷ []) 20 ≡ refusalAt 5 (At 0 4)
 unfolding writeCheck firstFault busFault branchFault
 new-below = refl
 

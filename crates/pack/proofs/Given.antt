@@ -9,14 +9,13 @@ use lib.ListN.{length}
 use Rattle.rows.specs.Row.{member}
 use Rattle.answer.specs.declared.Outcome.the-variants.{Accepted}
 use Rattle.answer.specs.declared.Answer.{Answer}
-use Rattle.answer.specs.Answer.{numberOf, noGroup, Said, bare}
-use Rattle.answer.proofs.Numbers.{Gives, gives-if, gives-said, said-is}
+use Rattle.answer.specs.Answer.{SaidBy, bare}
+use Rattle.answer.proofs.Numbers.{Gives, gives-if, gives-at, gives-said, said-is}
 use Rattle.layout.specs.declared.Form.{Form}
 use Rattle.layout.specs.Fault.{firstFault}
 use Rattle.layout.specs.Form.{fields}
 use Rattle.layout.specs.Layout.{bytesFor}
 use Rattle.layout.specs.Check.{outside, balances}
-use Rattle.layout.proofs.Given.{gives-at}
 use Rattle.pack.specs.Write.{entry, entryFault, rowFault, writeCheck, writeNumbers, BookWritten}
 
 pub write-gives : (form : Form) (n m factor : ℕ) (inj : List ℤ) (bra : List ℕ) (room : ℕ) → Gives writeNumbers (writeCheck form n m factor inj bra room)
@@ -30,7 +29,7 @@ write-gives form n m factor inj bra room =
     (gives-if writeNumbers (ltb room (bytesFor form n m)) 8 Accepted refl tt)))))
 
 module _ (form : Form) (n m factor : ℕ) (inj : List ℤ) (bra : List ℕ) where
-  pub write-said : (room : ℕ) {r : Answer} → r ≡ bare (writeCheck form n m factor inj bra room) → Said r (numberOf (writeCheck form n m factor inj bra room)) 0 noGroup
+  pub write-said : (room : ℕ) {r : Answer} → r ≡ bare (writeCheck form n m factor inj bra room) → SaidBy (writeCheck form n m factor inj bra room) r
   unfolding member
   write-said room = gives-said writeNumbers (writeCheck form n m factor inj bra room) refl refl (write-gives form n m factor inj bra room)
 

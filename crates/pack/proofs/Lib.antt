@@ -5,3 +5,4 @@ pub mod Writable
 pub mod TablesHold
 pub mod WrittenOnce
 pub mod Examples
+pub mod WrongTables

@@ -7,7 +7,7 @@ use lib.IntN.{ℤ, pos, negsuc}
 use Rattle.rows.specs.Row.{nth}
 use Rattle.rows.specs.Sum.{pick}
 use Rattle.quantity.specs.Signed.{negPart, isNeg}
-use Rattle.layout.specs.declared.Fault.the-variants.{Sound}
+use Rattle.answer.specs.declared.Place.the-variants.{Nowhere}
 use Rattle.layout.specs.Fault.{firstFault}
 use Rattle.layout.specs.Layout.{busValues}
 use Rattle.layout.proofs.Faults.{first-sound, sound-bus}
@@ -22,7 +22,7 @@ pub sign-none : (z : ℤ) → negPart z ≤ 0 → 0 ≡ pick (isNeg z) 1
 sign-none (pos n) h = refl
 sign-none (negsuc n) h = absurd (omega arith)
 
-pub small-entries : (l : List ℤ) (n : ℕ) → n ≤ 128 → firstFault (entryFault l) n ≡ Sound → Small (entry l) n
+pub small-entries : (l : List ℤ) (n : ℕ) → n ≤ 128 → firstFault (entryFault l) n ≡ Nowhere → Small (entry l) n
 small-entries l n h e = record {
   few = h;
   each = λ k u. omega (arith, sound-bus (nth (busValues (entry l k)) 0) (nth (busValues (entry l k)) 1) (first-sound (entryFault l) n e k u) .small);

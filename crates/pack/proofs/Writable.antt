@@ -11,11 +11,12 @@ use lib.ListN.{length, drop, replicate}
 use Rattle.answer.specs.declared.Outcome.{Outcome}
 use Rattle.answer.specs.declared.Outcome.the-variants.{Accepted}
 use Rattle.answer.specs.declared.Answer.{Answer}
-use Rattle.answer.specs.Answer.{bare, refusal}
+use Rattle.answer.specs.Answer.{bare, refusal, refusalAt}
 use Rattle.rows.proofs.Row.{either-false, length-upTo, getD-upTo}
-use Rattle.answer.proofs.Refusals.{past}
+use Rattle.answer.proofs.Refusals.{past, past-at}
 use Rattle.bits.specs.Fields.{puts, putItems}
-use Rattle.layout.specs.declared.Fault.the-variants.{Sound, At}
+use Rattle.answer.specs.declared.Place.{Place}
+use Rattle.answer.specs.declared.Place.the-variants.{Nowhere, At}
 use Rattle.layout.specs.declared.Form.{Form}
 use Rattle.layout.specs.Book.{Book, buses, count, injection, branch, noBranch}
 use Rattle.layout.specs.Fault.{firstFault}
@@ -23,7 +24,7 @@ use Rattle.layout.specs.Form.{formBit, branchWidths, fields, branchValues}
 use Rattle.layout.specs.Layout.{headWidths, busWidths, busStart, branchStart, bytesFor, busValues, packed, encode}
 use Rattle.layout.specs.Check.{outside, balances}
 use Rattle.answer.proofs.Refusals.{leaves}
-use Rattle.layout.proofs.AcceptedWhere.{InRange, in-range, range-in, past-fault}
+use Rattle.layout.proofs.AcceptedWhere.{InRange, in-range, range-in}
 use Rattle.layout.proofs.Packed.{put-packed, packed-same}
 use Rattle.layout.proofs.DecodeEncode.{encode-as}
 use Rattle.pack.proofs.Given.{write-said}
@@ -34,8 +35,8 @@ pub record Writable (form : Form) (n m factor : ℕ) (inj : List ℤ) (bra : Lis
   pub range : InRange n m factor
   pub injections-long : n ≤ length inj
   pub branches-long : fields form * m ≤ length bra
-  pub entries : firstFault (entryFault inj) n ≡ Sound
-  pub rows : firstFault (rowFault form n bra) m ≡ Sound
+  pub entries : firstFault (entryFault inj) n ≡ Nowhere
+  pub rows : firstFault (rowFault form n bra) m ≡ Nowhere
   pub level : balances n (entry inj) ≡ true
   pub fits : bytesFor form n m ≤ room
 
@@ -57,16 +58,16 @@ module _ (form : Form) (n m factor : ℕ) (inj : List ℤ) (bra : List ℕ) (roo
     write-few-branches l = sym (rw (o, le-ltb (length inj) n u, lt-ltb (length bra) (fields form * m) l) refl)
 
     module _ (v : fields form * m ≤ length bra) where
-      pub write-entry : (i j : ℕ) → firstFault (entryFault inj) n ≡ At i j → refusal 4 ≡ check
+      pub write-entry : {w : Place} {i j : ℕ} → w ≡ firstFault (entryFault inj) n → w ≡ At i j → refusalAt 4 w ≡ check
       unfolding writeCheck
-      write-entry i j e = sym (rw (o, le-ltb (length inj) n u, le-ltb (length bra) (fields form * m) v, e) refl)
+      write-entry h e = rw e (sym (rw (o, le-ltb (length inj) n u, le-ltb (length bra) (fields form * m) v, sym h ∙ e) refl))
 
-      module _ (e : firstFault (entryFault inj) n ≡ Sound) where
-        pub write-row : (i j : ℕ) → firstFault (rowFault form n bra) m ≡ At i j → refusal 5 ≡ check
+      module _ (e : firstFault (entryFault inj) n ≡ Nowhere) where
+        pub write-row : {w : Place} {i j : ℕ} → w ≡ firstFault (rowFault form n bra) m → w ≡ At i j → refusalAt 5 w ≡ check
         unfolding writeCheck
-        write-row i j f = sym (rw (o, le-ltb (length inj) n u, le-ltb (length bra) (fields form * m) v, e, f) refl)
+        write-row h f = rw f (sym (rw (o, le-ltb (length inj) n u, le-ltb (length bra) (fields form * m) v, e, sym h ∙ f) refl))
 
-        module _ (f : firstFault (rowFault form n bra) m ≡ Sound) where
+        module _ (f : firstFault (rowFault form n bra) m ≡ Nowhere) where
           pub write-sum : balances n (entry inj) ≡ false → refusal 7 ≡ check
           unfolding writeCheck
           write-sum b = sym (rw (o, le-ltb (length inj) n u, le-ltb (length bra) (fields form * m) v, e, f, b) refl)
@@ -86,8 +87,8 @@ module _ (form : Form) (n m factor : ℕ) (inj : List ℤ) (bra : List ℕ) (roo
       let p₁ = past (outside n m factor) 2 _ a in
       let p₂ = past (ltb (length inj) n || ltb (length bra) (fields form * m)) 8 _ (p₁ .1) in
       let q = either-false (ltb (length inj) n) (ltb (length bra) (fields form * m)) (p₂ .0) in
-      let p₃ = past-fault (firstFault (entryFault inj) n) 4 _ (p₂ .1) in
-      let p₄ = past-fault (firstFault (rowFault form n bra) m) 5 _ (p₃ .1) in
+      let p₃ = past-at (firstFault (entryFault inj) n) 4 _ (p₂ .1) in
+      let p₄ = past-at (firstFault (rowFault form n bra) m) 5 _ (p₃ .1) in
       let p₅ = past (not (balances n (entry inj))) 7 _ (p₄ .1) in
       let p₆ = past (ltb room (bytesFor form n m)) 8 _ (p₅ .1) in
       record {

@@ -9,7 +9,7 @@ use lib.ListN.{length, getD, drop}
 use Rattle.answer.specs.declared.Outcome.{Outcome}
 use Rattle.answer.specs.declared.Outcome.the-variants.{Accepted}
 use Rattle.answer.specs.declared.Answer.{Answer}
-use Rattle.answer.specs.Answer.{numberOf, noGroup, Said, refuseIf, settled}
+use Rattle.answer.specs.Answer.{SaidBy, refuseIf, refuseAt, settled}
 use Rattle.rows.specs.Row.{nth, upTo}
 use Rattle.layout.specs.declared.Form.{Form}
 use Rattle.layout.specs.declared.Branch.{Branch}
@@ -17,7 +17,8 @@ use Rattle.layout.specs.Form.{fields, branchOf}
 use Rattle.layout.specs.Book.{Book}
 use Rattle.layout.specs.Fault.{busFault, branchFault, firstFault}
 use Rattle.layout.specs.Layout.{bytesFor, busValues, encode}
-use Rattle.layout.specs.Check.{outside, refuseAt, balances}
+use Rattle.layout.specs.Rule.{Wrong}
+use Rattle.layout.specs.Check.{outside, balances}
 
 -- An injection and a branch of the tables beside a book.
 abbrev pub entry : List ℤ → ℕ → ℤ
@@ -41,6 +42,10 @@ entryFault injections k = busFault (nth (busValues (entry injections k)) 0) (nth
 abbrev pub rowFault : Form → ℕ → List ℕ → ℕ → ℕ
 rowFault f n branches k = branchFault f n (rowAt f branches k)
 
+-- The place of a refusal is right of the tables: an injection is tested as the bus that it would be in the book.
+abbrev pub WrongTables : Form → ℕ → ℕ → List ℤ → List ℕ → ℕ → ℕ → ℕ → Type 0
+WrongTables f n m injections branches number i j = Wrong f n m (λ k. busValues (entry injections k)) (rowAt f branches) number i j
+
 -- Refusals of the writer: 2, then 8 for its source tables, then 4, 5, 7, then 8 for its output; how long these must be is by the form asked for.
 unfoldable pub writeCheck : Form → ℕ → ℕ → ℕ → List ℤ → List ℕ → ℕ → Outcome
 writeCheck f n m factor injections branches room =
@@ -57,7 +62,7 @@ writeNumbers = 2 ∷ 4 ∷ 5 ∷ 7 ∷ 8 ∷ []
 
 -- The answer to writing the tables' book in form f into lent bytes, and every byte that these then hold.
 pub record BookWritten (f : Form) (n m factor : ℕ) (injections : List ℤ) (branches out out′ : List ℕ) (r : Answer) : Type 0 where
-  pub answer : Said r (numberOf (writeCheck f n m factor injections branches (length out))) 0 noGroup
+  pub answer : SaidBy (writeCheck f n m factor injections branches (length out)) r
   pub left : out′
       ≡ settled (writeCheck f n m factor injections branches (length out)) out
       (encode (bookFrom f n m factor injections branches) ++ drop (bytesFor f n m) out)

@@ -2,11 +2,11 @@
 ghost use mathlib.Core.Path.{_≡_};
 ghost use Prim.Native.Nat.{_+_, _*_, _<_, _≤_};
 ghost use lib.ListN.{length, replicate};
+ghost use Rattle.answer.specs.declared.Place.the-variants.{Nowhere};
 ghost use Rattle.answer.specs.declared.Outcome.the-variants.{Accepted};
 ghost use Rattle.rows.specs.Sum.{pick};
 ghost use Rattle.quantity.specs.Signed.{isNeg};
 ghost use Rattle.bits.specs.Fields.{putItems};
-ghost use Rattle.layout.specs.declared.Fault.the-variants.{Sound};
 ghost use Rattle.layout.specs.Book.{size};
 ghost use Rattle.layout.specs.Fault.{firstFault};
 ghost use Rattle.layout.specs.Form.{branchWidths, fields, branchValues};
@@ -16,9 +16,9 @@ ghost use Rattle.layout.specs.Check.{balances};
 ghost use Rattle.pack.specs.Write.{entry, rowAt, bookFrom, entryFault, rowFault, writeCheck, BookWritten};
 use answer::Answer;
 use answer::Outcome;
+use answer::Place;
 use layout::Branch;
 use layout::Bus;
-use layout::Fault;
 use layout::Form;
 use layout::Head;
 use layout::Sums;
@@ -47,17 +47,17 @@ fn bus_of(x: i32) -> Bus
     }
 }
 
-fn first_entry_fault(injections: &[i32], buses: usize) -> Fault
+fn first_entry_fault(injections: &[i32], buses: usize) -> Place
     requires { ⌜ buses ≤ length (now injections) ⌝ }
     ensures { λ r. ⌜ r ≡ firstFault (entryFault (now (injections .entry))) buses ⌝ }
 {
     for k in 0..buses {
         let field = layout::bus_fault(bus_of(injections[k]));
         if field != 0 {
-            return Fault::At { item: k, field };
+            return Place::At { item: k, field };
         }
     }
-    Fault::Sound
+    Place::Nowhere
 }
 
 // Branch k of the table. The second kVA is the number before the status: in the old form that is the first.
@@ -78,22 +78,22 @@ fn row_at(branches: &[u32], form: Form, k: usize) -> Branch
     }
 }
 
-fn first_row_fault(branches: &[u32], form: Form, buses: usize, count: usize) -> Fault
+fn first_row_fault(branches: &[u32], form: Form, buses: usize, count: usize) -> Place
     requires { ⌜ (count ≤ 256) × (fields form * count ≤ length (now branches)) ⌝ }
     ensures { λ r. ⌜ r ≡ firstFault (rowFault form buses (now (branches .entry))) count ⌝ }
 {
     for k in 0..count {
         let field = layout::branch_fault(form, buses, row_at(branches, form, k));
         if field != 0 {
-            return Fault::At { item: k, field };
+            return Place::At { item: k, field };
         }
     }
-    Fault::Sound
+    Place::Nowhere
 }
 
 // What enters is what leaves, of injections without fault.
 fn is_balanced(injections: &[i32], buses: usize) -> bool
-    requires { ⌜ (buses ≤ 128) × (buses ≤ length (now injections)) × (firstFault (entryFault (now injections)) buses ≡ Sound) ⌝ }
+    requires { ⌜ (buses ≤ 128) × (buses ≤ length (now injections)) × (firstFault (entryFault (now injections)) buses ≡ Nowhere) ⌝ }
     ensures { λ r. ⌜ r ≡ balances buses (entry (now (injections .entry))) ⌝ }
 {
     let mut sums = Sums {
@@ -128,12 +128,12 @@ fn check_tables(
         return answer::refuse(8);
     }
     let bus = first_entry_fault(injections, buses);
-    if let Fault::At { item: _, field: _ } = bus {
-        return answer::refuse(4);
+    if let Place::At { item: _, field: _ } = bus {
+        return answer::refuse_at(4, bus);
     }
     let branch = first_row_fault(branches, form, buses, count);
-    if let Fault::At { item: _, field: _ } = branch {
-        return answer::refuse(5);
+    if let Place::At { item: _, field: _ } = branch {
+        return answer::refuse_at(5, branch);
     }
     if !is_balanced(injections, buses) {
         return answer::refuse(7);

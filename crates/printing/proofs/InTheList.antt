@@ -1,6 +1,6 @@
 -- Each line of the printed list in document 01's words, over the case of the book: `out`, `carries`, or `short` with the shortage and the group of
 -- demand 2, whose members are counted over the book's own buses; and the one line of a refused book.
-use mathlib.Core.Path.{_≡_, refl, sym, ap, _∙_}
+use mathlib.Core.Path.{_≡_, refl, sym, ap, ap₂, _∙_}
 use mathlib.Core.Bool.{true, false}
 use mathlib.Core.List.{List, [], _++_, append-nil}
 use Prim.Native.Nat.{ℕ, suc, _≤_, _<_}
@@ -9,12 +9,14 @@ use lib.Dec.{eqb}
 use lib.IntN.{ℤ}
 use Rattle.rows.specs.Row.{member}
 use Rattle.rows.specs.Sum.{Group}
+use Rattle.answer.specs.declared.Place.{Place}
+use Rattle.answer.specs.declared.Place.the-variants.{At}
 use Rattle.answer.specs.declared.Answer.{Answer}
 use Rattle.answer.specs.declared.Outcome.{Outcome}
 use Rattle.answer.specs.declared.Outcome.the-variants.{Accepted}
-use Rattle.answer.specs.Answer.{numberOf, noGroup, Said, settled}
+use Rattle.answer.specs.Answer.{numberOf, placeOf, SaidBy, settled}
 use Rattle.answer.proofs.Numbers.{gives-not}
-use Rattle.answer.proofs.Refusals.{leaves}
+use Rattle.answer.proofs.Refusals.{leaves, at-not-nowhere}
 use Rattle.layout.specs.Layout.{busesIn, branchesIn}
 use Rattle.layout.proofs.WellFormed.{buses-of}
 use Rattle.verdict.specs.Case.{Case, on}
@@ -27,7 +29,7 @@ use Rattle.state.proofs.Checked.{passed, passing, posed-book, lent-gives}
 use Rattle.state.proofs.Status.{branches-of}
 use Rattle.screen.specs.Promise.{screenCheck, ScreenEnds, refuses, overloads, accepts}
 use Rattle.line.specs.Text.{decimalOf, nextOf, joined}
-use Rattle.line.specs.AnswerText.{membersText}
+use Rattle.line.specs.AnswerText.{membersText, placeText}
 use Rattle.line.proofs.Plain.{Plain, plain-then, plain-cond, plain-decimal, plain-next, plain-members}
 use Rattle.printing.specs.Lines.{headText, outWord, carriesWord, shortWord, refusedWord, shownText, branchText, refusedText}
 use Rattle.printing.specs.List.{lineOf, lineAt, acceptedText, listText}
@@ -108,8 +110,9 @@ module _ {bs : List ℕ} {flow : List ℤ} {table : List ℕ} {after : Lent} {r 
         ∙ ap (λ (n : ℕ). decimalOf k ++ (shortWord ++ shortOver n v S)) (case-buses bs)
 
 -- ---- A refused book.
-said-number-only : {r : Answer} {n : ℕ} → Said r n 0 noGroup → (n ≡ 12 → ⊥) → refusedText r ≡ refusedWord ++ nextOf n
-said-number-only {r} {n} s h = ap (λ (t : List ℕ). refusedWord ++ t) (sym (reason-other r (sym (s .number-is)) h))
+said-by-check : (o : Outcome) {r : Answer} → SaidBy o r → (numberOf o ≡ 12 → ⊥)
+    → refusedText r ≡ refusedWord ++ (nextOf (numberOf o) ++ placeText (placeOf o))
+said-by-check o {r} s h = ap (λ (t : List ℕ). refusedWord ++ t) (sym (reason-other r (sym (s .number-is)) h (sym (s .place-is))))
 
 over-said : (C : Case) → C .buses ≤ 128 → {r : Answer} → OverloadSaid C r → (v : ℕ) (S : Group) → Overload C v S
     → refusedText r ≡ refusedWord ++ (nextOf 12 ++ shortOver (C .buses) v S)
@@ -118,15 +121,26 @@ over-said C few {r} o v S s =
     (ap (λ (t : List ℕ). refusedWord ++ (nextOf 12 ++ t)) (short-over (o .group) few s (o .overload)))
 
 module _ {bs : List ℕ} {flow : List ℤ} {table : List ℕ} {after : Lent} {r : Answer} where
-  -- By its check: the number alone.
+  -- By its check: the number, and for 4 and 5 the place.
   pub refused-line : ScreenEnds (lent bs flow table) after r → (screenCheck (lent bs flow table) ≡ Accepted → ⊥)
-      → listText bs r (after .table) ≡ lineOf (refusedWord ++ nextOf (numberOf (screenCheck (lent bs flow table))))
+      → listText bs r (after .table)
+      ≡ lineOf (refusedWord ++ (nextOf (numberOf (screenCheck (lent bs flow table))) ++ placeText (placeOf (screenCheck (lent bs flow table)))))
   unfolding member
   refused-line (refuses n a k) h =
       leaves (r .outcome) _ _ (λ e. n (passing _ _ _ (accepted-screen (refuses n a k) e .passes)))
-      ∙ ap lineOf (said-number-only a (gives-not lentNumbers (screenCheck (lent bs flow table)) 12 (lent-gives _ _ _) refl (λ z. omega arith)))
+      ∙ ap lineOf (said-by-check (screenCheck (lent bs flow table)) a
+      (gives-not lentNumbers (screenCheck (lent bs flow table)) 12 (lent-gives _ _ _) refl (λ z. omega arith)))
   refused-line (overloads c o k) h = absurd (h c)
   refused-line (accepts c a s) h = absurd (h c)
+
+  -- An answer with a place: the number, the item and the field.
+  pub wrong-line : ScreenEnds (lent bs flow table) after r → {i j : ℕ} → placeOf (r .outcome) ≡ At i j
+      → listText bs r (after .table) ≡ lineOf (refusedWord ++ (nextOf (numberOf (r .outcome)) ++ (nextOf i ++ nextOf j)))
+  wrong-line (refuses n a k) e =
+      refused-line (refuses n a k) n
+      ∙ ap₂ {C = List ℕ} (λ (m : ℕ) (p : Place). lineOf (refusedWord ++ (nextOf m ++ placeText p))) (sym (a .number-is)) (sym (a .place-is) ∙ e)
+  wrong-line (overloads c o k) e = absurd (at-not-nowhere (o .answer .place-is) e)
+  wrong-line (accepts c a s) e = absurd (at-not-nowhere (a .place-is) e)
 
   -- By its base excess: 12, then any v and S that the case has, as in the line of a short branch.
   pub overload-line : ScreenEnds (lent bs flow table) after r → screenCheck (lent bs flow table) ≡ Accepted

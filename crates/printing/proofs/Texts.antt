@@ -1,17 +1,19 @@
 -- What the head line says, and a line in each case of what is shown and of a refusal.
 use mathlib.Core.Path.{_≡_, refl, sym, _∙_, subst}
-use mathlib.Core.List.{List, append-nil, _++_}
+use mathlib.Core.List.{List, _++_}
 use mathlib.Core.Logic.{_≢_}
 use Prim.Native.Nat.{ℕ}
 use borrow.Author.Tests.{eq-eqb, ne-eqb}
+use Rattle.answer.specs.declared.Place.{Place}
 use Rattle.answer.specs.declared.Answer.{Answer}
-use Rattle.answer.specs.Answer.{numberOf, shortageOf}
+use Rattle.answer.specs.Answer.{numberOf, shortageOf, placeOf}
 use Rattle.layout.specs.declared.Head.{Head}
 use Rattle.layout.specs.Inside.{HeadRead}
 use Rattle.verdict.specs.Record.{recordAt, verdictIn}
 use Rattle.record.specs.declared.Entry.{Entry}
 use Rattle.record.specs.Inside.{Stretch, Read}
 use Rattle.line.specs.Text.{decimalOf, nextOf}
+use Rattle.line.specs.AnswerText.{placeText}
 use Rattle.printing.specs.Lines.{headText, outWord, carriesWord, shortWord, shortText, shownText, reasonText}
 
 pub head-shown : {bs : List ℕ} {h : Head} → HeadRead bs h → decimalOf (h .buses) ++ nextOf (h .branches) ≡ headText bs
@@ -36,5 +38,5 @@ module _ (r : Answer) where
   pub reason-twelve : {n kw : ℕ} → n ≡ numberOf (r .outcome) → n ≡ 12 → kw ≡ shortageOf (r .outcome) → nextOf n ++ shortText kw (r .group) ≡ reasonText r
   reason-twelve e h f = rw (e, f, eq-eqb (numberOf (r .outcome)) 12 (sym e ∙ h)) refl
 
-  pub reason-other : {n : ℕ} → n ≡ numberOf (r .outcome) → n ≢ 12 → nextOf n ≡ reasonText r
-  reason-other e h = rw (e, ne-eqb (numberOf (r .outcome)) 12 (λ q. h (e ∙ q))) (sym (append-nil (nextOf (numberOf (r .outcome)))))
+  pub reason-other : {n : ℕ} {p : Place} → n ≡ numberOf (r .outcome) → n ≢ 12 → p ≡ placeOf (r .outcome) → nextOf n ++ placeText p ≡ reasonText r
+  reason-other e h f = rw (e, f, ne-eqb (numberOf (r .outcome)) 12 (λ q. h (e ∙ q))) refl

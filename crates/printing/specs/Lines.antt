@@ -5,11 +5,11 @@ use Prim.Native.Nat.{ℕ}
 use lib.Dec.{eqb}
 use lib.ListN.{take, drop}
 use Rattle.answer.specs.declared.Answer.{Answer}
-use Rattle.answer.specs.Answer.{numberOf, shortageOf}
+use Rattle.answer.specs.Answer.{numberOf, shortageOf, placeOf}
 use Rattle.layout.specs.Layout.{busesIn, branchesIn}
 use Rattle.verdict.specs.Record.{recordAt, verdictIn, shortageIn}
 use Rattle.line.specs.Text.{decimalOf, nextOf}
-use Rattle.line.specs.AnswerText.{groupText}
+use Rattle.line.specs.AnswerText.{groupText, placeText}
 
 -- Bus count, branch count of the book.
 abbrev pub headText : List ℕ → List ℕ
@@ -43,9 +43,11 @@ shownText rec =
 abbrev pub branchText : List ℕ → ℕ → List ℕ
 branchText table k = decimalOf k ++ shownText (recordAt table k)
 
--- The number of the refusal; for 12 also shortage and group.
+-- The number of the refusal; for 12 also shortage and group, for 4 and 5 also the place.
 abbrev pub reasonText : Answer → List ℕ
-reasonText r = nextOf (numberOf (r .outcome)) ++ cond (eqb (numberOf (r .outcome)) 12) (shortText (shortageOf (r .outcome)) (r .group)) []
+reasonText r =
+    nextOf (numberOf (r .outcome))
+    ++ cond (eqb (numberOf (r .outcome)) 12) (shortText (shortageOf (r .outcome)) (r .group)) (placeText (placeOf (r .outcome)))
 
 abbrev pub refusedText : Answer → List ℕ
 refusedText r = refusedWord ++ reasonText r

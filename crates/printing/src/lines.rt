@@ -5,11 +5,13 @@ ghost use Rattle.line.specs.Inside.{Added};
 ghost use Rattle.printing.specs.Lines.{headText, shortText, branchText, refusedText};
 use answer::Answer;
 use answer::number_of;
+use answer::place_of;
 use answer::shortage_of;
 use line::put;
 use line::put_decimal;
 use line::put_group;
 use line::put_next;
+use line::put_place;
 
 // The counts as the book's header has them.
 pub fn put_head(out: &mut [u8], book: &[u8]) -> usize
@@ -65,5 +67,5 @@ pub fn put_refused(out: &mut [u8], answer: Answer) -> usize
     if number == 12 {
         return put_short(out, after_number, shortage_of(outcome), group);
     }
-    after_number
+    put_place(out, after_number, place_of(outcome))
 }

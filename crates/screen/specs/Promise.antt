@@ -1,7 +1,7 @@
 -- What `screen` promises.
 use mathlib.Core.Path.{_≡_}
 use lib.ListN.{length}
-use Rattle.answer.specs.Answer.{numberOf, noGroup, Said}
+use Rattle.answer.specs.Answer.{SaidBy}
 use Rattle.answer.specs.declared.Outcome.{Outcome}
 use Rattle.answer.specs.declared.Outcome.the-variants.{Accepted}
 use Rattle.answer.specs.declared.Answer.{Answer}
@@ -21,7 +21,7 @@ abbrev pub screenCheck : Lent → Outcome
 screenCheck l = lentCheck (l .book) (length (l .flow)) (length (l .table))
 
 pub data ScreenEnds (before after : Lent) (r : Answer) : Type 0 where
-  refuses : (screenCheck before ≡ Accepted → ⊥) → Said r (numberOf (screenCheck before)) 0 noGroup → after ≡ before → ScreenEnds before after r
+  refuses : (screenCheck before ≡ Accepted → ⊥) → SaidBy (screenCheck before) r → after ≡ before → ScreenEnds before after r
   -- 12: the base excess of the book
   overloads : screenCheck before ≡ Accepted → OverloadSaid (caseIn (before .book)) r → after ≡ before → ScreenEnds before after r
-  accepts : screenCheck before ≡ Accepted → Said r 0 0 noGroup → Screened (caseIn (before .book)) before after → ScreenEnds before after r
+  accepts : screenCheck before ≡ Accepted → SaidBy Accepted r → Screened (caseIn (before .book)) before after → ScreenEnds before after r

@@ -7,7 +7,8 @@ use lib.Dec.{ltb}
 use lib.IntN.{ℤ}
 use lib.ListN.{length}
 use Rattle.rows.specs.Bit.{has}
-use Rattle.answer.specs.Answer.{numberOf, noGroup, Said, refuseIf, andThen}
+use Rattle.answer.specs.Answer.{Said, SaidBy, refusal, refuseIf, andThen}
+use Rattle.answer.specs.declared.Place.the-variants.{Nowhere}
 use Rattle.answer.specs.declared.Outcome.{Outcome}
 use Rattle.answer.specs.declared.Outcome.the-variants.{Accepted}
 use Rattle.answer.specs.declared.Answer.{Answer}
@@ -32,7 +33,7 @@ lent bs flow table = record { book = bs; flow = flow; table = table }
 pub record OverloadSaid (C : Case) (r : Answer) : Type 0 where
   pub shortage : ℕ
   pub group : List ℕ
-  pub answer : Said r 12 shortage group
+  pub answer : Said r 12 shortage group Nowhere
   pub long : length group ≡ 16
   pub bytes : Bytes group
   pub overload : Overload C shortage (has group)
@@ -40,9 +41,9 @@ pub record OverloadSaid (C : Case) (r : Answer) : Type 0 where
 -- A call on the case C that would make it the case D, after its own checks of what is lent. Accepted, it has done what `done` says; a refusal
 -- changes nothing lent.
 pub data Ends (check : Outcome) (C D : Case) (done : Type 0) (before after : Lent) (r : Answer) : Type 0 where
-  refuses : (check ≡ Accepted → ⊥) → Said r (numberOf check) 0 noGroup → after ≡ before → Ends check C D done before after r
+  refuses : (check ≡ Accepted → ⊥) → SaidBy check r → after ≡ before → Ends check C D done before after r
   -- 11: the lent flow doesn't fit the book
-  unfit : check ≡ Accepted → (Fits C (C .limit) (on (before .flow)) → ⊥) → Said r 11 0 noGroup → after ≡ before → Ends check C D done before after r
+  unfit : check ≡ Accepted → (Fits C (C .limit) (on (before .flow)) → ⊥) → SaidBy (refusal 11) r → after ≡ before → Ends check C D done before after r
   -- 12: the base excess of the changed book
   overloads : check ≡ Accepted → Fits C (C .limit) (on (before .flow)) → OverloadSaid D r → after ≡ before → Ends check C D done before after r
-  accepts : check ≡ Accepted → Fits C (C .limit) (on (before .flow)) → Said r 0 0 noGroup → done → Ends check C D done before after r
+  accepts : check ≡ Accepted → Fits C (C .limit) (on (before .flow)) → SaidBy Accepted r → done → Ends check C D done before after r

@@ -6,12 +6,11 @@ use Prim.Native.Nat.{ℕ, _≤_, _<_}
 use native.Mathlib.Omega.{arith}
 use borrow.Author.Tests.{le-leb, lt-leb, leb-false, eq-eqb, ne-eqb, eqb-true, eqb-false}
 use lib.Dec.{eqb, leb}
-use Rattle.rows.specs.Row.{member}
 use Rattle.answer.specs.Answer.{refusal}
 use Rattle.answer.specs.declared.Outcome.{Outcome}
 use Rattle.answer.specs.declared.Outcome.the-variants.{Accepted}
 use Rattle.answer.proofs.Refusals.{past, past-both, stands}
-use Rattle.answer.proofs.Numbers.{Gives, gives-if, gives-then, inside, gives-more}
+use Rattle.answer.proofs.Numbers.{Gives, plain, gives-if, gives-then, inside, gives-more}
 use Rattle.layout.specs.declared.Form.{Form}
 use Rattle.layout.specs.declared.Branch.{Branch}
 use Rattle.layout.specs.Book.{branch}
@@ -42,7 +41,7 @@ module _ (bs : List ℕ) (flows bytes b v n : ℕ) where
   unfolding branchCheck
   switching t = rw (passing bs flows bytes (t .passes), lt-leb (branchesIn bs) b (t .there), ne-eqb (branch (bookOf bs) b .status) v (t .other)) refl
 
-  pub branch-gives : (ns : List ℕ) → inside lentNumbers ns ≡ true → member 9 ns ≡ true → member n ns ≡ true → Gives ns (branchCheck bs flows bytes b v n)
+  pub branch-gives : (ns : List ℕ) → inside lentNumbers ns ≡ true → plain 9 ns ≡ true → plain n ns ≡ true → Gives ns (branchCheck bs flows bytes b v n)
   unfolding branchCheck
   branch-gives ns i j m =
       gives-then ns (lentCheck bs flows bytes) _ (gives-more lentNumbers ns (lentCheck bs flows bytes) i (lent-gives bs flows bytes))

@@ -1,9 +1,10 @@
 //! The named books and inputs whose lists are stored: document 01's two books in either form, marked examples, books whose
 //! two ratings differ, damaged and too long inputs.
 
-use crate::books::plain::{moved_up, plain, with_out, with_seconds};
+use crate::books::plain::{moved_up, plain, struck, with_out, with_seconds};
 use crate::books::{ratings, sources};
 use crate::definitions::book::{pack, Book};
+use crate::definitions::fields::Field;
 
 /// Document 01's triangle, with the rating of its branch 1-2.
 pub fn triangle(last: u32) -> Book {
@@ -60,7 +61,7 @@ pub fn largest_new() -> Book {
 
 /// Names and bytes of every stored input; a request's own come after all that stood there before.
 pub fn inputs() -> Vec<(&'static str, Vec<u8>)> {
-    old_inputs().into_iter().chain(new_inputs()).chain(rated_inputs()).collect()
+    old_inputs().into_iter().chain(new_inputs()).chain(rated_inputs()).chain(wrong_inputs()).collect()
 }
 
 fn new_inputs() -> Vec<(&'static str, Vec<u8>)> {
@@ -76,6 +77,23 @@ fn new_inputs() -> Vec<(&'static str, Vec<u8>)> {
 
 fn rated_inputs() -> Vec<(&'static str, Vec<u8>)> {
     vec![("triangle-two", pack(&ratings::triangle_two())), ("ring-two", pack(&ratings::ring_two()))]
+}
+
+/// Refused with 4 or 5, each at another field. In the last two more is wrong after the first: far down in the one, in the same
+/// branch in the other.
+fn wrong_inputs() -> Vec<(&'static str, Vec<u8>)> {
+    let second = second_book(25);
+    vec![
+        ("bus-large", struck(&triangle(30), &[(2, Field::Size, 1_000_001)])),
+        ("minus-zero", struck(&second, &[(1, Field::Sign, 1)])),
+        ("equal-ends", struck(&second, &[(2, Field::SecondBus, 1)])),
+        ("no-bus-new", struck(&moved_up(second), &[(3, Field::SecondBus, 4)])),
+        (
+            "kva-far",
+            struck(&largest(), &[(200, Field::Kva, 1_000_001), (201, Field::SecondBus, 73), (255, Field::Kva, 1_048_575)]),
+        ),
+        ("many-new", struck(&second_two(), &[(1, Field::Kva, 1_000_001), (1, Field::SecondKva, 0), (3, Field::FirstBus, 127)])),
+    ]
 }
 
 fn old_inputs() -> Vec<(&'static str, Vec<u8>)> {

@@ -1,8 +1,9 @@
 //! Books as they are most often written by hand: old, power factor 1000, and every branch in service but named ones; and
-//! the same in the new form.
+//! the same in the new form, and with fields that are wrong.
 
-use crate::definitions::book::Book;
+use crate::definitions::book::{pack_items, Book};
 use crate::definitions::branch::Branch;
+use crate::definitions::fields::Field;
 use crate::definitions::form::Form;
 
 /// An old book with every branch in service at power factor 1000.
@@ -33,4 +34,14 @@ pub fn with_seconds(book: Book, seconds: &[(usize, u32)]) -> Book {
     let mut book = moved_up(book);
     seconds.iter().for_each(|&(branch, kva)| book.branches[branch].second_kva = kva);
     book
+}
+
+/// A bus or a branch, one of its fields, and the value that it gets.
+pub type Change = (usize, Field, u32);
+
+/// The bytes of a book with some fields changed, right or wrong.
+pub fn struck(book: &Book, changes: &[Change]) -> Vec<u8> {
+    let mut items = book.items();
+    changes.iter().for_each(|&(item, field, value)| *items.field_mut(item, field) = value);
+    pack_items(&items, book.factor)
 }

@@ -1,8 +1,11 @@
 //! The packed book of either form: what it says, its bytes, and reading these with refusals 1 to 7.
 
 use crate::definitions::bits::{self, Packer};
-use crate::definitions::branch::{self, Branch};
-use crate::definitions::form::{Form, BUS, HEADER, LARGEST, LAYOUT};
+use crate::definitions::branch::Branch;
+use crate::definitions::fields::{Field, BUS_FIELDS};
+use crate::definitions::form::{bus_at, Form, LAYOUT};
+use crate::definitions::items::Items;
+use crate::definitions::place::Refusal;
 
 #[derive(Clone, Debug, PartialEq, Eq)]
 pub struct Book {
@@ -21,6 +24,11 @@ impl Book {
     /// The length of its bytes in a form.
     pub fn length_in(&self, form: Form) -> usize {
         form.length(self.injections.len(), self.branches.len())
+    }
+
+    /// Its buses and branches, field by field.
+    pub fn items(&self) -> Items {
+        Items::new(self.form, &self.injections, self.branches.iter().map(|branch| branch.row(self.form)).collect())
     }
 }
 
@@ -60,63 +68,56 @@ pub fn header_of_whole(bytes: &[u8]) -> Result<Header, u8> {
     }
 }
 
-/// The row of numbers of each branch, as the fields say.
-pub fn rows(bytes: &[u8], header: &Header) -> Vec<Vec<u32>> {
-    let row = |number: usize| {
-        let mut at = header.form.branch_at(header.buses, number);
-        let mut next = |width: &usize| {
-            at += width;
-            bits::field(bytes, at - width, *width)
-        };
-        header.form.widths().iter().map(&mut next).collect()
+/// So many rows of numbers from a place on, as the fields say.
+fn rows(bytes: &[u8], from: usize, fields: &[Field], count: usize) -> Vec<Vec<u32>> {
+    let mut at = from;
+    let mut next = |field: &Field| {
+        at += field.width();
+        bits::field(bytes, at - field.width(), field.width())
     };
-    (0..header.count).map(row).collect()
+    (0..count).map(|_| fields.iter().map(&mut next).collect()).collect()
 }
 
-/// What the bytes say, or the number of the first refusal that holds.
-pub fn unpack(bytes: &[u8]) -> Result<Book, u8> {
+/// The buses and branches of a book, field by field, whatever they say.
+pub fn items(bytes: &[u8], header: &Header) -> Items {
+    let Header { form, buses, count, .. } = *header;
+    let branches = rows(bytes, form.branch_at(buses, 0), form.fields(), count);
+    Items { form, buses: rows(bytes, bus_at(0), BUS_FIELDS, buses), branches }
+}
+
+/// What the bytes say, or the first refusal that holds.
+pub fn unpack(bytes: &[u8]) -> Result<Book, Refusal> {
     let header = header_of_whole(bytes)?;
     let Header { form, buses, count, factor } = header;
-    let injections = unpack_buses(bytes, buses)?;
-    let branches = branch::branches(form, &rows(bytes, &header), buses)?;
+    let items = items(bytes, &header);
+    items.tested()?;
     if (form.branch_at(buses, count)..8 * bytes.len()).any(|place| bits::bit(bytes, place)) {
-        return Err(6);
+        return Err(6.into());
     }
+    let injections = items.injections();
     if injections.iter().sum::<i64>() != 0 {
-        return Err(7);
+        return Err(7.into());
     }
-    Ok(Book { form, factor, injections, branches })
-}
-
-fn unpack_buses(bytes: &[u8], buses: usize) -> Result<Vec<i64>, u8> {
-    (0..buses)
-        .map(|bus| {
-            let negative = bits::bit(bytes, HEADER + BUS * bus);
-            let size = bits::field(bytes, HEADER + BUS * bus + 1, 20) as i64;
-            match (negative, size) {
-                (true, 0) => Err(4),
-                (_, size) if size > LARGEST => Err(4),
-                (true, size) => Ok(-size),
-                (false, size) => Ok(size),
-            }
-        })
-        .collect()
+    Ok(Book { form, factor, injections, branches: items.branches() })
 }
 
 /// The bytes of a book, whether or not a reader would take it: fields only need to fit their widths.
 pub fn pack(book: &Book) -> Vec<u8> {
+    pack_items(&book.items(), book.factor)
+}
+
+/// The same from its buses and branches field by field, so that minus zero can be said too.
+pub fn pack_items(items: &Items, factor: u32) -> Vec<u8> {
     let mut packer = Packer::default();
-    packer.put(book.injections.len() as u32, 8);
-    packer.put(book.branches.len() as u32, 9);
-    packer.put(book.factor, 10);
-    packer.put(book.form.layout_bit(), 1);
+    packer.put(items.buses.len() as u32, 8);
+    packer.put(items.branches.len() as u32, 9);
+    packer.put(factor, 10);
+    packer.put(items.form.layout_bit(), 1);
     packer.put(0, 4);
-    for &injection in &book.injections {
-        packer.put((injection < 0) as u32, 1);
-        packer.put(injection.unsigned_abs() as u32, 20);
-    }
-    for branch in &book.branches {
-        branch.row(book.form).iter().zip(book.form.widths()).for_each(|(&value, &width)| packer.put(value, width));
+    for (fields, rows) in [(BUS_FIELDS, &items.buses), (items.form.fields(), &items.branches)] {
+        for row in rows {
+            row.iter().zip(fields).for_each(|(&value, field)| packer.put(value, field.width()));
+        }
     }
     packer.bytes()
 }

@@ -1,15 +1,15 @@
-//! The two forms of a packed book (document 02, W3): how wide its fields are and where each stands.
+//! The two forms of a packed book (document 02, W3): which fields a branch has, and where everything stands.
 
 use crate::definitions::bits;
+use crate::definitions::fields::{self, Field, BUS_FIELDS};
 
 /// The largest injection in kW, and the largest rating in kVA.
 pub const LARGEST: i64 = 1_000_000;
 pub const HEADER: usize = 32;
-pub const BUS: usize = 21;
 /// The place of the header's layout bit, 1 in a new book; its four fill bits come after it.
 pub const LAYOUT: usize = 27;
 
-#[derive(Clone, Copy, Debug, PartialEq, Eq)]
+#[derive(Clone, Copy, Debug, PartialEq, Eq, PartialOrd, Ord)]
 pub enum Form {
     Old,
     New,
@@ -34,23 +34,23 @@ impl Form {
         (self == Form::New) as u32
     }
 
-    /// The widths of a branch's fields: first bus, second bus, kVA, in the new form second kVA, status. The table beside a
-    /// book has the same numbers in the same order, so that reading is stated once over both forms.
-    pub fn widths(self) -> &'static [usize] {
+    /// A branch in layout order. The table beside a book has the same numbers in the same order, and a fault is told by the
+    /// place here, so that each is stated once over both forms.
+    pub fn fields(self) -> &'static [Field] {
         match self {
-            Form::Old => &[7, 7, 20, 1],
-            Form::New => &[7, 7, 20, 20, 1],
+            Form::Old => &[Field::FirstBus, Field::SecondBus, Field::Kva, Field::Status],
+            Form::New => &[Field::FirstBus, Field::SecondBus, Field::Kva, Field::SecondKva, Field::Status],
         }
     }
 
     /// How many numbers a branch has in the table.
     pub fn numbers(self) -> usize {
-        self.widths().len()
+        self.fields().len()
     }
 
     /// The place of a branch's first bit. That of the branch after the last is the tail's.
     pub fn branch_at(self, buses: usize, branch: usize) -> usize {
-        HEADER + BUS * buses + self.widths().iter().sum::<usize>() * branch
+        bus_at(buses) + fields::width_of(self.fields()) * branch
     }
 
     /// The place of a branch's status bit, which is its last.
@@ -62,6 +62,11 @@ impl Form {
     pub fn length(self, buses: usize, count: usize) -> usize {
         self.branch_at(buses, count).div_ceil(8)
     }
+}
+
+/// The place of a bus's first bit, in either form. That of the bus after the last is the first branch's.
+pub fn bus_at(bus: usize) -> usize {
+    HEADER + fields::width_of(BUS_FIELDS) * bus
 }
 
 impl std::fmt::Display for Form {

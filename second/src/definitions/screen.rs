@@ -8,9 +8,9 @@ use crate::definitions::network::{Network, Verdict};
 use crate::definitions::record;
 use crate::definitions::reroutes::{self, Exactly};
 
-/// The book, if it can be read and the lent flow and table are long enough for it; else refusals 1 to 8.
+/// The book, if it can be read and the lent flow and table are long enough for it; else refusals 1 to 8, with the place of 4 and 5.
 pub fn opened(bytes: &[u8], flow_room: usize, table_room: usize) -> Result<Book, Answer> {
-    let book = book::unpack(bytes).map_err(Answer::refused)?;
+    let book = book::unpack(bytes)?;
     let count = book.branches.len();
     if flow_room < count || table_room < record::SIZE * count {
         return Err(Answer::refused(8));

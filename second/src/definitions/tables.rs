@@ -1,8 +1,9 @@
 //! The tables beside a book, injections and four or five numbers a branch by its form: read into, and written from.
 
 use crate::definitions::book::{self, counts_in_range, Book};
-use crate::definitions::branch;
-use crate::definitions::form::{Form, LARGEST};
+use crate::definitions::form::Form;
+use crate::definitions::items::Items;
+use crate::definitions::place::Refusal;
 
 /// The numbers of all branches in the book's own form.
 pub fn numbers(book: &Book) -> Vec<u32> {
@@ -15,18 +16,19 @@ pub fn enough(form: Form, buses: usize, count: usize, injections: usize, numbers
 }
 
 /// The reader: the book, if it can be read and the lent tables are long enough for its form; else 1 to 8.
-pub fn read(bytes: &[u8], injections: usize, numbers: usize) -> Result<Book, u8> {
+pub fn read(bytes: &[u8], injections: usize, numbers: usize) -> Result<Book, Refusal> {
     let book = book::unpack(bytes)?;
     if enough(book.form, book.injections.len(), book.branches.len(), injections, numbers) {
         Ok(book)
     } else {
-        Err(8)
+        Err(8.into())
     }
 }
 
-/// The rows of the first branches in a table long enough for them.
-pub fn rows(form: Form, count: usize, numbers: &[u32]) -> Vec<Vec<u32>> {
-    numbers.chunks(form.numbers()).take(count).map(<[u32]>::to_vec).collect()
+/// The buses and branches that so many numbers of tables long enough for them name, field by field, whatever they say.
+pub fn items(form: Form, buses: usize, count: usize, injections: &[i64], numbers: &[u32]) -> Items {
+    let rows = numbers.chunks(form.numbers()).take(count).map(<[u32]>::to_vec);
+    Items::new(form, &injections[..buses], rows.collect())
 }
 
 /// The writer: a form, its source tables as lent (they may be too short or too long), and the room of its output.
@@ -38,23 +40,20 @@ pub fn write(
     injections: &[i64],
     numbers: &[u32],
     room: usize,
-) -> Result<Vec<u8>, u8> {
+) -> Result<Vec<u8>, Refusal> {
     if !counts_in_range(buses, count, factor) {
-        return Err(2);
+        return Err(2.into());
     }
     if !enough(form, buses, count, injections.len(), numbers.len()) {
-        return Err(8);
+        return Err(8.into());
     }
-    let injections = injections[..buses].to_vec();
-    if injections.iter().any(|injection| injection.abs() > LARGEST) {
-        return Err(4);
-    }
-    let branches = branch::branches(form, &rows(form, count, numbers), buses)?;
-    if injections.iter().sum::<i64>() != 0 {
-        return Err(7);
+    let items = items(form, buses, count, injections, numbers);
+    items.tested()?;
+    if items.injections().iter().sum::<i64>() != 0 {
+        return Err(7.into());
     }
     if room < form.length(buses, count) {
-        return Err(8);
+        return Err(8.into());
     }
-    Ok(book::pack(&Book { form, factor, injections, branches }))
+    Ok(book::pack_items(&items, factor))
 }

@@ -1,13 +1,15 @@
 //! The faults to be planted where a book has the new form or is moved to a form, by name, and how each is planted.
 
+use crate::definitions::answer::Answer;
 use crate::definitions::bits;
 use crate::definitions::book::{self, pack, Book};
-use crate::definitions::branch::{Branch, Wrong};
+use crate::definitions::branch::Branch;
 use crate::definitions::form::{Form, LAYOUT};
 use crate::definitions::switching::Way;
 use crate::definitions::tables;
+use crate::definitions::wrong::Wrong;
 use crate::judging::faults::Plant;
-use crate::judging::forms::{differ_on_last_alone, differ_out_of_service_alone, first_wrong};
+use crate::judging::forms::{differ_on_last_alone, differ_out_of_service_alone};
 use crate::judging::plant::*;
 use crate::trial::reference::Done;
 use crate::trial::spaces::{hex, spaced};
@@ -19,8 +21,8 @@ pub const FORM_FAULTS: &[(&str, Plant)] = &[
     ("a return that sets the bit where an old book has it", |done| status_at_old_place(done, Way::Back)),
     ("a new book refused with 3", |done| instead(done, new_lent, "3")),
     ("a new book refused with 1", |done| instead(done, new_lent, "1")),
-    ("a second kVA below the first accepted", |done| wrong_accepted(done, Wrong::SecondBelowFirst)),
-    ("a second kVA above 1,000,000 accepted", |done| wrong_accepted(done, Wrong::SecondAboveLargest)),
+    ("a second kVA below the first accepted", |done| wrong_accepted(done, Wrong::SecondKvaBelow)),
+    ("a second kVA above 1,000,000 accepted", |done| wrong_accepted(done, Wrong::SecondKvaAbove)),
     ("the second kVA read before the first", |done| read_as(done, |book| tables::numbers(&turned(book)))),
     ("four numbers a branch read of a new book", |done| {
         read_as(done, |book| book.branches.iter().flat_map(|branch| branch.row(Form::Old)).collect())
@@ -125,8 +127,7 @@ fn status_at_old_place(done: &mut Done, way: Way) -> bool {
 }
 
 fn wrong_accepted(done: &mut Done, wrong: Wrong) -> bool {
-    let five = done.command.answer_in(done.lines) == Some(5);
-    five && first_wrong(done.command, done.before) == Some(wrong) && answer_words(done, |words| words[1] = "0".into())
+    placed(done).is_some_and(|faults| faults[0].wrong == wrong) && says(done, Answer::ACCEPTED)
 }
 
 /// Other branch numbers printed by a read of a new book.

@@ -126,12 +126,6 @@ fn records_by(done: &mut Done, call: &str, reading: impl Fn(&Book) -> Network) -
         })
 }
 
-/// Gives a call this answer; true where that is another one.
-fn says(done: &mut Done, answer: Answer) -> bool {
-    let line = format!("{} {answer}", done.command.call().expect("a call"));
-    answer_words(done, |words| *words = line.split(' ').map(String::from).collect())
-}
-
 /// Whether the command is this call, refused with 12; with the network lent and the branch named, 0 for a screen.
 fn refused_by_12(done: &mut Done, call: &str, plant: impl FnOnce(&Network, usize, &mut Done) -> bool) -> bool {
     if done.command.call() != Some(call) || done.command.answer_in(done.lines) != Some(12) {

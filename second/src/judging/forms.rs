@@ -1,7 +1,6 @@
 //! Counts calls by the form of their book, and refusals besides by what was wrong.
 
 use crate::definitions::book::{self, Book};
-use crate::definitions::branch::{self, Wrong};
 use crate::definitions::form::Form;
 use crate::definitions::tables;
 use crate::judging::tally::Tally;
@@ -44,28 +43,22 @@ pub fn refused(tally: &mut Tally, command: &Command, lent: &Spaces, number: u8) 
     }
 }
 
-/// What a refusal is counted by besides its number.
+/// What a refusal is counted by besides its number; where a 4 or 5 stands is counted apart.
 fn reasons(command: &Command, lent: &Spaces, number: u8) -> Vec<(&'static str, bool)> {
-    let wrong = |due: Wrong| number == 5 && first_wrong(command, lent) == Some(due);
-    let mut reasons = vec![
-        ("a second kVA below the first", wrong(Wrong::SecondBelowFirst)),
-        ("a second kVA above 1,000,000", wrong(Wrong::SecondAboveLargest)),
-    ];
     match *command {
         Command::Write { form, buses, count, injections, branches, .. } if number == 8 => {
             let enough = tables::enough(form, buses, count, injections, branches);
-            reasons.extend([("its source too short", !enough), ("its output too short", enough)]);
+            vec![("its source too short", !enough), ("its output too short", enough)]
         }
-        Command::Move { form, room } if number == 18 => {
-            if let Ok(book) = book::unpack(lent.bytes()) {
-                reasons.push(("the last branch alone", differ_on_last_alone(&book)));
-                reasons.push(("branches out of service alone", differ_out_of_service_alone(&book)));
-                reasons.push(("its output too short as well", room < book.length_in(form)));
-            }
-        }
-        _ => {}
+        Command::Move { form, room } if number == 18 => book::unpack(lent.bytes()).map_or(Vec::new(), |book| {
+            vec![
+                ("the last branch alone", differ_on_last_alone(&book)),
+                ("branches out of service alone", differ_out_of_service_alone(&book)),
+                ("its output too short as well", room < book.length_in(form)),
+            ]
+        }),
+        _ => Vec::new(),
     }
-    reasons
 }
 
 /// Whether the ratings differ on the last branch and on no other.
@@ -77,16 +70,4 @@ pub fn differ_on_last_alone(book: &Book) -> bool {
 /// Whether the ratings differ on no branch in service.
 pub fn differ_out_of_service_alone(book: &Book) -> bool {
     book.branches.iter().all(|branch| !branch.served || branch.kva == branch.second_kva)
-}
-
-/// What is wrong with the first wrong branch of a book lent, or of the tables that a book is to be written from.
-pub fn first_wrong(command: &Command, lent: &Spaces) -> Option<Wrong> {
-    let (form, buses, rows) = match *command {
-        Command::Write { form, buses, count, .. } => (form, buses, tables::rows(form, count, &lent.numbers)),
-        _ => {
-            let header = book::header_of_whole(lent.bytes()).ok()?;
-            (header.form, header.buses, book::rows(lent.bytes(), &header))
-        }
-    };
-    rows.iter().find_map(|row| branch::wrong(form, row, buses))
 }

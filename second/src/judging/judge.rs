@@ -79,6 +79,9 @@ impl Judge<'_> {
         self.tally.count(&format!("refused {:>2}", answer.number));
         self.tally.count(&format!("{} refused {:>2}", word(command), answer.number));
         forms::refused(&mut self.tally, command, &self.spaces, answer.number);
+        if answer.place.is_some() {
+            self.tally.places.count(command, &self.spaces);
+        }
     }
 
     fn step(&mut self, command: &Command) -> Result<(), String> {

@@ -13,7 +13,7 @@ fn kept(book: &Book) -> Book {
 
 /// What is wrong with a shelf after an accepted move of the book `lent` to a form; `before` is the shelf before it.
 pub fn promised(lent: &[u8], form: Form, before: &[u8], shelf: &[u8]) -> Result<(), String> {
-    let from = book::unpack(lent).map_err(|number| format!("moved, though the book is refused with {number}"))?;
+    let from = book::unpack(lent).map_err(|refusal| format!("moved, though the book is refused with {refusal}"))?;
     let (moved, beyond) = shelf.split_at(from.length_in(form));
     if *beyond != before[moved.len()..] {
         return Err("the shelf beyond the moved book was written".into());
@@ -21,7 +21,7 @@ pub fn promised(lent: &[u8], form: Form, before: &[u8], shelf: &[u8]) -> Result<
     if form == from.form && moved != lent {
         return Err("a book in the form asked for came back changed".into());
     }
-    let to = book::unpack(moved).map_err(|number| format!("the moved book is refused with {number}"))?;
+    let to = book::unpack(moved).map_err(|refusal| format!("the moved book is refused with {refusal}"))?;
     if to.form != form || kept(&to) != kept(&from) {
         return Err("the moved book is in another form, or says something else".into());
     }

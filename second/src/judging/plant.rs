@@ -1,8 +1,10 @@
 //! How a fault is planted: what a wrong program would leave or print at one command of a stream.
 
+use crate::definitions::answer::Answer;
 use crate::definitions::book;
 use crate::definitions::comeback;
 use crate::definitions::cuts::{self, Cutter};
+use crate::definitions::items::Fault;
 use crate::definitions::limits::Limits;
 use crate::definitions::network::{Excess, Network, Verdict};
 use crate::definitions::outage;
@@ -10,6 +12,7 @@ use crate::definitions::record::{self, SIZE};
 use crate::definitions::reroutes;
 use crate::definitions::screen;
 use crate::definitions::switching::Way;
+use crate::judging::places::lent_items;
 use crate::trial::reference::Done;
 use crate::trial::spaces::Spaces;
 use crate::trial::stream::{Command, BOOK};
@@ -32,6 +35,18 @@ pub fn line_with(done: &mut Done, first: &str, change: impl FnOnce(&mut Vec<Stri
 
 pub fn answer_words(done: &mut Done, change: impl FnOnce(&mut Vec<String>)) -> bool {
     done.command.call().is_some_and(|call| line_with(done, call, change))
+}
+
+/// Gives a call this answer; true where that is another one.
+pub fn says(done: &mut Done, answer: Answer) -> bool {
+    let line = format!("{} {answer}", done.command.call().expect("a call"));
+    answer_words(done, |words| *words = line.split(' ').map(String::from).collect())
+}
+
+/// All that is wrong where the command is a call refused with 4 or 5.
+pub fn placed(done: &Done) -> Option<Vec<Fault>> {
+    done.command.answer_in(done.lines).filter(|number| [4, 5].contains(number))?;
+    lent_items(done.command, done.before).map(|items| items.faults().collect())
 }
 
 pub fn refused_12(done: &mut Done, change: impl FnOnce(&mut Vec<String>)) -> bool {

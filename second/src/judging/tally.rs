@@ -3,14 +3,18 @@
 use crate::definitions::limits::Limits;
 use crate::definitions::network::Network;
 use crate::definitions::switching::Judged;
+use crate::judging::places::Places;
 use std::collections::BTreeMap;
 
 #[derive(Default)]
-pub struct Tally(BTreeMap<String, usize>);
+pub struct Tally {
+    kinds: BTreeMap<String, usize>,
+    pub places: Places,
+}
 
 impl Tally {
     pub fn add(&mut self, kind: &str, number: usize) {
-        *self.0.entry(kind.to_string()).or_default() += number;
+        *self.kinds.entry(kind.to_string()).or_default() += number;
     }
 
     pub fn count(&mut self, kind: &str) {
@@ -18,11 +22,12 @@ impl Tally {
     }
 
     pub fn of(&self, kind: &str) -> usize {
-        self.0.get(kind).copied().unwrap_or(0)
+        self.kinds.get(kind).copied().unwrap_or(0)
     }
 
     pub fn join(&mut self, other: &Tally) {
-        other.0.iter().for_each(|(kind, &number)| self.add(kind, number));
+        other.kinds.iter().for_each(|(kind, &number)| self.add(kind, number));
+        self.places.join(&other.places);
     }
 
     /// Counts an accepted call by what its network is like.
@@ -60,6 +65,7 @@ impl Tally {
 
 impl std::fmt::Display for Tally {
     fn fmt(&self, out: &mut std::fmt::Formatter) -> std::fmt::Result {
-        self.0.iter().try_for_each(|(kind, number)| writeln!(out, "{number:>9}  {kind}"))
+        self.kinds.iter().try_for_each(|(kind, number)| writeln!(out, "{number:>9}  {kind}"))?;
+        self.places.fmt(out)
     }
 }

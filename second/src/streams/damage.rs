@@ -3,45 +3,45 @@
 use crate::books::random::Random;
 use crate::books::random_books::{counts, strained};
 use crate::definitions::bits;
-use crate::definitions::book::{pack, Book};
-use crate::definitions::form::{Form, BUS, HEADER, LAYOUT};
+use crate::definitions::book::pack_items;
+use crate::definitions::form::{Form, HEADER, LAYOUT};
+use crate::definitions::wrong::Wrong;
+use crate::streams::aim::{self, Held};
 use crate::streams::stored::{out, READ_WHOLE, WHOLE};
 use crate::streams::under_way::Stream;
 use crate::trial::stream::{Command, BOOK};
 
-/// One thing wrong with a book, in its fields or in its bytes.
+/// What is wrong with a book: fields of its buses or branches, its sum, or its bytes.
 #[derive(Clone, Copy, Debug, PartialEq, Eq)]
 pub enum Damage {
-    Size,
-    Sum,
+    Bus,
     Branch,
-    SecondBelow,
-    SecondAbove,
+    Sum,
     Cut,
     Longer,
     OtherLength,
     Counts,
     Fill,
     Layout,
-    MinusZero,
     Tail,
     Buses,
 }
 
 impl Damage {
+    /// Every kind; those with many fields to spoil more than once.
     pub const ALL: [Damage; 14] = [
-        Damage::Size,
-        Damage::Sum,
+        Damage::Bus,
+        Damage::Bus,
         Damage::Branch,
-        Damage::SecondBelow,
-        Damage::SecondAbove,
+        Damage::Branch,
+        Damage::Branch,
+        Damage::Sum,
         Damage::Cut,
         Damage::Longer,
         Damage::OtherLength,
         Damage::Counts,
         Damage::Fill,
         Damage::Layout,
-        Damage::MinusZero,
         Damage::Tail,
         Damage::Buses,
     ];
@@ -87,23 +87,22 @@ fn arbitrary(random: &mut Random) -> Vec<u8> {
     bytes
 }
 
-/// A random book with one thing wrong.
+/// A random book that is damaged.
 pub fn spoilt_book(random: &mut Random, damage: Damage) -> Vec<u8> {
     let (buses, count) = counts(random);
-    let book = strained(random, buses, count);
-    spoilt(random, book, damage)
-}
-
-/// The bytes of a book with one thing wrong; where it has no such thing to spoil, the book's own.
-pub fn spoilt(random: &mut Random, mut book: Book, damage: Damage) -> Vec<u8> {
-    let bus = random.below(book.injections.len());
-    match damage {
-        Damage::Size => book.injections[bus] = *random.pick(&[1_000_001, -1_000_001, 1_048_575]),
-        Damage::Sum => book.injections[bus] += random.between(-3, 3),
-        Damage::Branch | Damage::SecondBelow | Damage::SecondAbove => spoil_branch(random, &mut book, damage),
-        _ => {}
+    let mut book = strained(random, buses, count);
+    if damage == Damage::Sum {
+        let bus = random.below(buses);
+        book.injections[bus] += random.between(-3, 3);
     }
-    let mut bytes = pack(&book);
+    let mut items = book.items();
+    if matches!(damage, Damage::Bus | Damage::Branch) {
+        let mut wrongs = Wrong::of_book(book.form);
+        wrongs.retain(|wrong| wrong.field().of_bus() == (damage == Damage::Bus));
+        let wrong = *random.pick(&wrongs);
+        aim::damage(random, &mut items, Held::Book, wrong);
+    }
+    let mut bytes = pack_items(&items, book.factor);
     let other_length = book.length_in(book.form.other());
     match damage {
         Damage::Cut => bytes.truncate(random.below(bytes.len())),
@@ -112,49 +111,17 @@ pub fn spoilt(random: &mut Random, mut book: Book, damage: Damage) -> Vec<u8> {
         Damage::Counts => flip(random, &mut bytes, 0, LAYOUT),
         Damage::Fill => flip(random, &mut bytes, LAYOUT + 1, HEADER),
         Damage::Layout => flip(random, &mut bytes, LAYOUT, LAYOUT + 1),
-        Damage::MinusZero => minus_zero(&book, &mut bytes),
         Damage::Tail => *bytes.last_mut().expect("never empty") |= 1,
         Damage::Buses => bytes[0] = *random.pick(&[0, 129, 255]),
-        _ => {}
+        Damage::Bus | Damage::Branch | Damage::Sum => {}
     }
     bytes
-}
-
-/// One field of one branch, if there is one; where it is the second kVA the book becomes new.
-fn spoil_branch(random: &mut Random, book: &mut Book, damage: Damage) {
-    if book.branches.is_empty() {
-        return;
-    }
-    let buses = book.injections.len();
-    let last = book.branches.len() - 1;
-    let place = if random.once_in(3) { last } else { random.below(last + 1) };
-    let branch = &mut book.branches[place];
-    match (damage, random.below(4)) {
-        (Damage::SecondBelow, way) => {
-            branch.kva = branch.kva.max(1);
-            branch.second_kva = if way < 2 { branch.kva - 1 } else { random.below(branch.kva as usize) as u32 };
-        }
-        (Damage::SecondAbove, _) => branch.second_kva = *random.pick(&[1_000_001, 1_048_575]),
-        (_, 0) => branch.first = buses.min(127),
-        (_, 1) => branch.second = 127,
-        (_, 2) => branch.second = branch.first,
-        _ => branch.kva = *random.pick(&[1_000_001, 1_048_575]),
-    }
-    if damage != Damage::Branch {
-        book.form = Form::New;
-    }
 }
 
 fn flip(random: &mut Random, bytes: &mut [u8], from: usize, to: usize) {
     let place = from + random.below(to - from);
     let turned = !bits::bit(bytes, place);
     bits::set(bytes, place, turned);
-}
-
-fn minus_zero(book: &Book, bytes: &mut [u8]) {
-    if let Some(bus) = book.injections.iter().position(|&kw| kw == 0) {
-        bits::set(bytes, HEADER + BUS * bus, true);
-    }
 }
 
 /// Registers with advances small and large, rolled over, and lists of every length.

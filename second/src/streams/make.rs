@@ -5,7 +5,7 @@ use crate::books::random_ratings;
 use crate::definitions::record;
 use crate::definitions::switching::Way;
 use crate::streams::under_way::Stream;
-use crate::streams::{damage, make_forms, make_ratings, make_returns, make_tables, make_written};
+use crate::streams::{damage, make_forms, make_places, make_ratings, make_returns, make_tables, make_written};
 use crate::trial::stream::{Command, FLOWS, INJECTIONS, NUMBERS, TABLE};
 
 /// The random stream of a seed.
@@ -16,7 +16,7 @@ pub fn stream(seed: u64) -> Vec<u8> {
         if stream.random.once_in(3) {
             stream.add(Command::Spoil);
         }
-        match stream.random.below(25) {
+        match stream.random.below(27) {
             0 => run(&mut stream),
             1 | 2 => run_with_spoilt_table(&mut stream),
             3 | 4 => make_tables::lent_flow(&mut stream),
@@ -33,7 +33,9 @@ pub fn stream(seed: u64) -> Vec<u8> {
             21 => make_forms::refused(&mut stream),
             22 => make_ratings::switched(&mut stream),
             23 => make_ratings::lent_true(&mut stream),
-            _ => make_ratings::between(&mut stream),
+            24 => make_ratings::between(&mut stream),
+            25 => make_places::lent(&mut stream),
+            _ => make_places::in_tables(&mut stream),
         }
         if stream.dumps_left == 0 {
             break;

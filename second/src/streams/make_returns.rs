@@ -8,7 +8,7 @@ use crate::streams::{make_forms, make_tables};
 use crate::trial::stream::{Command, FLOWS, TABLE};
 
 /// Ways to spoil a book such that 1 to 7 are each met often.
-const SPOILT: [Damage; 7] = [Damage::Cut, Damage::Buses, Damage::Fill, Damage::Size, Damage::Branch, Damage::Tail, Damage::Sum];
+const SPOILT: [Damage; 7] = [Damage::Cut, Damage::Buses, Damage::Fill, Damage::Bus, Damage::Branch, Damage::Tail, Damage::Sum];
 
 /// A screen, then outages and returns in any order, at times a branch out and straight back, at times any branch at all;
 /// the book as it stands then is moved at times.

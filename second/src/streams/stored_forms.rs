@@ -5,7 +5,7 @@ use crate::books::named::{filled_to, largest, largest_new, second_book, second_t
 use crate::books::plain::{moved_up, plain, with_out, with_seconds};
 use crate::definitions::bits;
 use crate::definitions::book::{pack, Book};
-use crate::definitions::form::{Form, BUS, HEADER, LAYOUT};
+use crate::definitions::form::{bus_at, Form, HEADER, LAYOUT};
 use crate::definitions::switching::Way;
 use crate::streams::stored::{back, four, out, written, READ_WHOLE, WHOLE};
 use crate::streams::under_way::Stream;
@@ -125,7 +125,7 @@ pub fn damaged_new_books() -> Vec<Vec<u8>> {
         with_bit(&book, LAYOUT + 1),
         with_bit(&book, HEADER - 1),
         pack(&two(1_000_001, (0, 1, 1))),
-        with_bit(&two(0, (0, 1, 1)), HEADER + BUS),
+        with_bit(&two(0, (0, 1, 1)), bus_at(1)),
         pack(&two(5, (0, 2, 5))),
         pack(&two(5, (1, 1, 5))),
         pack(&two(5, (0, 1, 1_000_001))),

@@ -88,7 +88,7 @@ impl Spaces {
             let numbers = tables::numbers(book);
             self.numbers[..numbers.len()].copy_from_slice(&numbers);
         }
-        let answer = read.err().map_or(Answer::ACCEPTED, Answer::refused);
+        let answer = read.err().map_or(Answer::ACCEPTED, Answer::from);
         (Some(answer), vec![format!("read {answer}"), self.injections_line(), spaced("branches", &self.numbers)])
     }
 
@@ -102,7 +102,7 @@ impl Spaces {
             self.book[..bytes.len()].copy_from_slice(bytes);
             self.length = bytes.len();
         }
-        let answer = written.err().map_or(Answer::ACCEPTED, Answer::refused);
+        let answer = written.err().map_or(Answer::ACCEPTED, Answer::from);
         (Some(answer), vec![format!("write {answer}")])
     }
 
@@ -111,7 +111,7 @@ impl Spaces {
         if let Ok(bytes) = &moved {
             self.shelf[..bytes.len()].copy_from_slice(bytes);
         }
-        let answer = moved.err().map_or(Answer::ACCEPTED, Answer::refused);
+        let answer = moved.err().map_or(Answer::ACCEPTED, Answer::from);
         (Some(answer), vec![format!("moved {answer}"), self.shelf_line()])
     }
 

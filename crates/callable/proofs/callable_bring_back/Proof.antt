@@ -1,4 +1,4 @@
--- The answer of the call in three parts.
+-- The answer of the call in its parts.
 use borrow.Author.Needs.{needs}
 use Rattle.state.proofs.ProperAnswer.{ends-proper}
 use Rattle.callable.proofs.InParts.{in-parts}
@@ -19,7 +19,7 @@ same-length-2 c = search needs
 
 returns : tie.Need-returns
 returns c =
-    let answered = c .before .before .before .before .before .before .before .bring-back in
+    let answered = c .before .before .before .before .before .before .before .before .before .bring-back in
     in-parts _ (answered .result) (answered .ensures) (ends-proper (answered .ensures)) (c .tell .ensures)
 
 pub callable-bring-back-spec : {M : Type 1} → statement M

@@ -1,4 +1,4 @@
--- The answer of the call in three parts.
+-- The answer of the call in its parts.
 use borrow.Author.Needs.{needs}
 use Rattle.screen.proofs.ScreenEnd.{screen-proper}
 use Rattle.callable.proofs.InParts.{in-parts}
@@ -19,7 +19,7 @@ same-length-2 c = search needs
 
 returns : tie.Need-returns
 returns c =
-    let answered = c .before .before .before .before .before .before .screen in
+    let answered = c .before .before .before .before .before .before .before .before .screen in
     in-parts _ (answered .result) (answered .ensures) (screen-proper (answered .ensures)) (c .tell .ensures)
 
 pub callable-screen-spec : {M : Type 1} → statement M

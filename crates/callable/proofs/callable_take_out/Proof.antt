@@ -1,4 +1,4 @@
--- The answer of the call in three parts.
+-- The answer of the call in its parts.
 use borrow.Author.Needs.{needs}
 use Rattle.state.proofs.ProperAnswer.{ends-proper}
 use Rattle.callable.proofs.InParts.{in-parts}
@@ -22,7 +22,7 @@ same-length-3 c = search needs
 
 returns : tie.Need-returns
 returns c =
-    let answered = c .before .before .before .before .before .before .before .before .take-out in
+    let answered = c .before .before .before .before .before .before .before .before .before .before .take-out in
     in-parts _ (answered .result) (answered .ensures) (ends-proper (answered .ensures)) (c .tell .ensures)
 
 pub callable-take-out-spec : {M : Type 1} → statement M

@@ -5,7 +5,7 @@ use mathlib.Core.Bool.{false}
 use Prim.Native.Nat.{_*_, _≤_}
 use lib.ListN.{length}
 use borrow.Author.Tests.{not-true, not-false}
-use Rattle.layout.specs.declared.Fault.the-variants.{Sound}
+use Rattle.answer.specs.declared.Place.the-variants.{Nowhere}
 use Rattle.layout.specs.Form.{fields}
 use Rattle.layout.specs.Fault.{firstFault}
 use Rattle.layout.specs.Check.{outside}
@@ -24,10 +24,10 @@ range c = let a = c .before .before .before .args in in-range (a .buses) (a .cou
 long : (c : tie.Else3) → let a = c .before .before .before .before .before .before .args in fields (a .form) * a .count ≤ length (a .branches .now)
 long c = rw (c .before .numbers .ensures .count-is) at (c .if3 .left)
 
-entries : (c : tie.After-enum-told2) → let a = c .before .before .before .before .before .before .before .before .before .args in firstFault (entryFault (a .injections .now)) (a .buses) ≡ Sound
+entries : (c : tie.After-enum-told2) → let a = c .before .before .before .before .before .before .before .before .before .args in firstFault (entryFault (a .injections .now)) (a .buses) ≡ Nowhere
 entries c = sym (c .before .before .first-entry-fault .ensures) ∙ c .enum-told2 .given .1
 
-faultless : (c : tie.After-enum-told4) → let a = c .before .before .before .before .before .before .before .before .before .before .before .before .args in firstFault (rowFault (a .form) (a .buses) (a .branches .now)) (a .count) ≡ Sound
+faultless : (c : tie.After-enum-told4) → let a = c .before .before .before .before .before .before .before .before .before .before .before .before .args in firstFault (rowFault (a .form) (a .buses) (a .branches .now)) (a .count) ≡ Nowhere
 faultless c = sym (c .before .before .first-row-fault .ensures) ∙ c .enum-told4 .given .1
 
 is-outside-requires : tie.Need-is-outside-requires
@@ -60,15 +60,15 @@ first-entry-fault-requires c κs = search needs
 enum-told : tie.Need-enum-told
 enum-told c = search needs
 
-refuse-requires-4 : tie.Need-refuse-requires-4
-refuse-requires-4 c κs = search needs
+refuse-at-requires : tie.Need-refuse-at-requires
+refuse-at-requires c κs = search needs
 
 returns-4 : tie.Need-returns-4
 returns-4 c =
     let s = c .before .before .before in
     let e = s .before in
-    c .refuse4 .ensures
-    ∙ write-entry _ _ _ _ _ _ _ (inside (e .before .before .before)) (e .before .before .if2 .left) (long e) _ _ (sym (s .first-entry-fault .ensures) ∙ c .before .enum-told .given .1)
+    c .refuse-at .ensures
+    ∙ write-entry _ _ _ _ _ _ _ (inside (e .before .before .before)) (e .before .before .if2 .left) (long e) (s .first-entry-fault .ensures) (c .before .enum-told .given .1)
 
 enum-told-2 : tie.Need-enum-told-2
 enum-told-2 c = search needs
@@ -79,15 +79,15 @@ first-row-fault-requires c κs = let e = c .before .before .before in (range (e 
 enum-told-3 : tie.Need-enum-told-3
 enum-told-3 c = search needs
 
-refuse-requires-5 : tie.Need-refuse-requires-5
-refuse-requires-5 c κs = search needs
+refuse-at-requires-2 : tie.Need-refuse-at-requires-2
+refuse-at-requires-2 c κs = search needs
 
 returns-5 : tie.Need-returns-5
 returns-5 c =
     let t = c .before .before .before in
     let e = t .before .before .before .before in
-    c .refuse5 .ensures
-    ∙ write-row _ _ _ _ _ _ _ (inside (e .before .before .before)) (e .before .before .if2 .left) (long e) (entries (t .before)) _ _ (sym (t .first-row-fault .ensures) ∙ c .before .enum-told3 .given .1)
+    c .refuse-at2 .ensures
+    ∙ write-row _ _ _ _ _ _ _ (inside (e .before .before .before)) (e .before .before .if2 .left) (long e) (entries (t .before)) (t .first-row-fault .ensures) (c .before .enum-told3 .given .1)
 
 enum-told-4 : tie.Need-enum-told-4
 enum-told-4 c = search needs
@@ -98,15 +98,15 @@ is-balanced-requires c κs =
     let e = t .before .before .before .before in
     (range (e .before .before .before) .few-buses, e .before .before .if2 .left, entries (t .before))
 
-refuse-requires-6 : tie.Need-refuse-requires-6
-refuse-requires-6 c κs = search needs
+refuse-requires-4 : tie.Need-refuse-requires-4
+refuse-requires-4 c κs = search needs
 
 returns-6 : tie.Need-returns-6
 returns-6 c =
     let l = c .before .before in
     let t = l .before .before .before in
     let e = t .before .before .before .before in
-    c .refuse6 .ensures
+    c .refuse4 .ensures
     ∙ write-sum _ _ _ _ _ _ _ (inside (e .before .before .before)) (e .before .before .if2 .left) (long e) (entries (t .before)) (faultless (l .before)) (sym (l .is-balanced .ensures) ∙ not-true _ (c .before .if4 .taken))
 
 bytes-for-requires : tie.Need-bytes-for-requires
@@ -114,8 +114,8 @@ bytes-for-requires c κs =
     let e = c .before .before .before .before .before .before .before .before in
     (range (e .before .before .before) .few-buses, range (e .before .before .before) .few-branches)
 
-refuse-requires-7 : tie.Need-refuse-requires-7
-refuse-requires-7 c κs = search needs
+refuse-requires-5 : tie.Need-refuse-requires-5
+refuse-requires-5 c κs = search needs
 
 returns-7 : tie.Need-returns-7
 returns-7 c =
@@ -123,7 +123,7 @@ returns-7 c =
     let l = y .before .before in
     let t = l .before .before .before in
     let e = t .before .before .before .before in
-    c .refuse7 .ensures
+    c .refuse5 .ensures
     ∙ write-room _ _ _ _ _ _ _ (inside (e .before .before .before)) (e .before .before .if2 .left) (long e) (entries (t .before)) (faultless (l .before)) (sym (l .is-balanced .ensures) ∙ not-false _ (y .before .if4 .left)) _ (y .bytes-for .ensures) (c .before .if5 .taken)
 
 returns-8 : tie.Need-returns-8
@@ -148,18 +148,18 @@ check-tables-spec =
     returns-3
     first-entry-fault-requires
     enum-told
-    refuse-requires-4
+    refuse-at-requires
     returns-4
     enum-told-2
     first-row-fault-requires
     enum-told-3
-    refuse-requires-5
+    refuse-at-requires-2
     returns-5
     enum-told-4
     is-balanced-requires
-    refuse-requires-6
+    refuse-requires-4
     returns-6
     bytes-for-requires
-    refuse-requires-7
+    refuse-requires-5
     returns-7
     returns-8)

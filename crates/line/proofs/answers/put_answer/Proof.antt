@@ -29,19 +29,34 @@ put-next-requires-2 c κs = search needs
 put-group-requires : tie.Need-put-group-requires
 put-group-requires c κs = search needs
 
+place-of-requires : tie.Need-place-of-requires
+place-of-requires c κs = search needs
+
+put-place-requires : tie.Need-put-place-requires
+put-place-requires c κs = search needs
+
 same-length : tie.Need-same-length
 same-length c = search needs
 
 returns : tie.Need-returns
 returns c =
-    let group = c .before .before in
+    let place = c .before .before in
+    let group = place .before .before .before .before .before in
     let shortage = group .before .before .before .before in
     let number = shortage .before .before .before .before .before in
     let word = number .before .before .before .before .before in (
       added-then (word .put .ensures)
           (added-then (rw (number .before .number-of .ensures) at (number .put-next .ensures .0))
-          (added-then (rw (shortage .before .shortage-of .ensures) at (shortage .put-next2 .ensures .0)) (group .put-group .ensures .0))),
-      omega (arith, word .put .ensures .ends, number .put-next .ensures .1, shortage .put-next2 .ensures .1, group .put-group .ensures .1),
+          (added-then (rw (shortage .before .shortage-of .ensures) at (shortage .put-next2 .ensures .0))
+          (added-then (group .put-group .ensures .0) (rw (place .before .place-of .ensures) at (place .put-place .ensures .0))))),
+      omega (
+        arith,
+        word .put .ensures .ends,
+        number .put-next .ensures .1,
+        shortage .put-next2 .ensures .1,
+        group .put-group .ensures .1,
+        place .put-place .ensures .1,
+      ),
     )
 
 pub put-answer-spec : {M : Type 1} → statement M
@@ -56,5 +71,7 @@ put-answer-spec =
     cast-put-next-2
     put-next-requires-2
     put-group-requires
+    place-of-requires
+    put-place-requires
     same-length
     returns)

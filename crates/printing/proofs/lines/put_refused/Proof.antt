@@ -1,4 +1,4 @@
--- `put_refused` adds the number of a refusal, and for 12 the shortage and the group.
+-- `put_refused` adds the number of a refusal, for 12 the shortage and the group, and else its place.
 use borrow.Author.Needs.{needs}
 use native.Mathlib.Omega.{arith}
 use Rattle.line.proofs.Adding.{added-same, added-then}
@@ -43,16 +43,27 @@ returns c =
       omega (arith, word .put .ensures .ends, number .put-next .ensures .1, short .put-short .ensures .1),
     )
 
+place-of-requires : tie.Need-place-of-requires
+place-of-requires c κs = search needs
+
+put-place-requires : tie.Need-put-place-requires
+put-place-requires c κs = search needs
+
 same-length-2 : tie.Need-same-length-2
 same-length-2 c = search needs
 
 returns-2 : tie.Need-returns-2
 returns-2 c =
-    let number = c .before .before .before in
+    let place = c .before .before in
+    let test = place .before .before .before in
+    let number = test .before .before .before in
     let word = number .before .before .before .before in
     let told = word .before .before .before in (
-      added-then (word .put .ensures) (added-same (reason-other (told .before .before .before .args .answer) (told .number-of .ensures) (c .if1 .left)) (number .put-next .ensures .0)),
-      omega (arith, word .put .ensures .ends, number .put-next .ensures .1),
+      added-then (word .put .ensures)
+          (added-same
+          (reason-other (told .before .before .before .args .answer) (told .number-of .ensures) (test .if1 .left) (place .before .place-of .ensures))
+          (added-then (number .put-next .ensures .0) (place .put-place .ensures .0))),
+      omega (arith, word .put .ensures .ends, number .put-next .ensures .1, place .put-place .ensures .1),
     )
 
 pub put-refused-spec : {M : Type 1} → statement M
@@ -68,5 +79,7 @@ put-refused-spec =
     put-short-requires
     same-length
     returns
+    place-of-requires
+    put-place-requires
     same-length-2
     returns-2)
