@@ -1,4 +1,4 @@
--- What the promise of reading fixes: one result, and a refusal that says its number alone and leaves all as it was.
+-- What the promise of reading fixes: one result, and a refusal that says its number and place alone and leaves all as it was.
 use mathlib.Core.Path.{_≡_, refl, sym, _∙_}
 use mathlib.Core.Bool.{_||_}
 use mathlib.Core.List.{List, _++_}

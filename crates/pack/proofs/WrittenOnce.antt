@@ -1,4 +1,4 @@
--- What the promise of writing fixes: one result, a refusal that says its number alone and leaves all as it was, and a well-formed book.
+-- What the promise of writing fixes: one result, a refusal that says its number and place alone and leaves all as it was, and a well-formed book.
 use mathlib.Core.Path.{_≡_, refl, sym, ap, _∙_}
 use mathlib.Core.List.{List, _++_}
 use Prim.Native.Nat.{ℕ, _+_, _*_, _<_}
