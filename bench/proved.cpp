@@ -4,36 +4,43 @@
 #include <algorithm>
 
 extern "C" {
-uint8_t callable_screen(const uint8_t *book, size_t bytes, int32_t *flow, size_t flows, uint8_t *table, size_t length,
-                        uint32_t *shortage, uint8_t *group, size_t *item, uint8_t *field);
-uint8_t callable_take_out(uint8_t *book, size_t bytes, int32_t *flow, size_t flows, uint8_t *table, size_t length,
-                          size_t branch, uint32_t *shortage, uint8_t *group, size_t *item, uint8_t *field);
-uint8_t callable_bring_back(uint8_t *book, size_t bytes, const int32_t *flow, size_t flows, uint8_t *table,
-                            size_t length, size_t branch, uint32_t *shortage, uint8_t *group, size_t *item,
-                            uint8_t *field);
+uint8_t callable_screen(uint32_t percent, const uint8_t *book, size_t bytes, int32_t *flow, size_t flows,
+                        uint8_t *table, size_t length, uint32_t *shortage, uint8_t *group, size_t *item,
+                        uint8_t *field);
+uint8_t callable_take_out(uint32_t percent, uint8_t *book, size_t bytes, int32_t *flow, size_t flows, uint8_t *table,
+                          size_t length, size_t branch, uint32_t *shortage, uint8_t *group, size_t *item,
+                          uint8_t *field);
+uint8_t callable_bring_back(uint32_t percent, uint8_t *book, size_t bytes, const int32_t *flow, size_t flows,
+                            uint8_t *table, size_t length, size_t branch, uint32_t *shortage, uint8_t *group,
+                            size_t *item, uint8_t *field);
+}
+
+namespace {
+// The peers know no percentage.
+constexpr uint32_t nameplate = 100;
 }
 
 Answer proved_screen(Lent &lent) {
     Answer answer;
-    answer.number =
-        callable_screen(lent.book.data(), lent.book.size(), lent.flow.data(), lent.flow.size(), lent.table.data(),
-                        lent.table.size(), &answer.shortage, answer.group.data(), &answer.item, &answer.field);
+    answer.number = callable_screen(nameplate, lent.book.data(), lent.book.size(), lent.flow.data(), lent.flow.size(),
+                                    lent.table.data(), lent.table.size(), &answer.shortage, answer.group.data(),
+                                    &answer.item, &answer.field);
     return answer;
 }
 
 Answer proved_take_out(Lent &lent, int branch) {
     Answer answer;
-    answer.number =
-        callable_take_out(lent.book.data(), lent.book.size(), lent.flow.data(), lent.flow.size(), lent.table.data(),
-                          lent.table.size(), branch, &answer.shortage, answer.group.data(), &answer.item, &answer.field);
+    answer.number = callable_take_out(nameplate, lent.book.data(), lent.book.size(), lent.flow.data(),
+                                      lent.flow.size(), lent.table.data(), lent.table.size(), branch,
+                                      &answer.shortage, answer.group.data(), &answer.item, &answer.field);
     return answer;
 }
 
 Answer proved_bring_back(Lent &lent, int branch) {
     Answer answer;
-    answer.number =
-        callable_bring_back(lent.book.data(), lent.book.size(), lent.flow.data(), lent.flow.size(), lent.table.data(),
-                            lent.table.size(), branch, &answer.shortage, answer.group.data(), &answer.item, &answer.field);
+    answer.number = callable_bring_back(nameplate, lent.book.data(), lent.book.size(), lent.flow.data(),
+                                        lent.flow.size(), lent.table.data(), lent.table.size(), branch,
+                                        &answer.shortage, answer.group.data(), &answer.item, &answer.field);
     return answer;
 }
 

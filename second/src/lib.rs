@@ -2,8 +2,8 @@
 //!
 //! A folder imports only from folders named above it here; `tests/folders.rs` holds that.
 
-/// What the papers define: books of either form, networks, verdicts, records, calls with their refusals and where a book is
-/// wrong, meters, the list.
+/// What the papers define: books of either form, the percentage of a call, networks, verdicts, records, calls with their refusals
+/// and where a book is wrong, meters, the list.
 pub mod definitions {
     pub mod answer;
     pub mod bits;
@@ -22,6 +22,7 @@ pub mod definitions {
     pub mod moves;
     pub mod network;
     pub mod outage;
+    pub mod percentage;
     pub mod place;
     pub mod record;
     pub mod reroutes;
@@ -34,10 +35,12 @@ pub mod definitions {
 /// Books to try: those with a name, those of source document 001, random ones, and the text form of any.
 pub mod books {
     pub mod named;
+    pub mod percentages;
     pub mod plain;
     pub mod random;
     pub mod random_books;
     pub mod random_forms;
+    pub mod random_percentages;
     pub mod random_ratings;
     pub mod ratings;
     pub mod sources;
@@ -59,6 +62,7 @@ pub mod streams {
     pub mod gate;
     pub mod make;
     pub mod make_forms;
+    pub mod make_percentages;
     pub mod make_places;
     pub mod make_ratings;
     pub mod make_returns;
@@ -66,6 +70,7 @@ pub mod streams {
     pub mod make_written;
     pub mod stored;
     pub mod stored_forms;
+    pub mod stored_percentages;
     pub mod stored_places;
     pub mod stored_ratings;
     pub mod stored_returns;
@@ -77,12 +82,15 @@ pub mod judging {
     pub mod accepted;
     pub mod faults;
     pub mod faults_forms;
+    pub mod faults_percentages;
     pub mod faults_places;
     pub mod faults_ratings;
     pub mod faults_returns;
     pub mod forms;
     pub mod judge;
+    pub mod misread;
     pub mod moved;
+    pub mod percentages;
     pub mod places;
     pub mod plant;
     pub mod ratings;

@@ -7,6 +7,7 @@ use second::definitions::book::{pack, unpack};
 use second::definitions::form::Form;
 use second::definitions::limits::Limits;
 use second::definitions::network::{Network, Verdict};
+use second::definitions::percentage::NAMEPLATE;
 use second::definitions::reroutes::{confined, exactly, Exactly};
 use second::definitions::tables::{numbers, write};
 use second::definitions::{cuts, groups};
@@ -20,10 +21,10 @@ fn both_methods_agree_on_small_books() {
         let count = random.below(2 * buses + 3);
         let book = match round % 4 {
             0 => strained(&mut random, buses, count),
-            1 => heavy(&mut random, buses, count).0,
+            1 => heavy(&mut random, NAMEPLATE, buses, count).0,
             _ => served(&mut random, buses, count),
         };
-        let network = Network::of(&book);
+        let network = Network::of(&book, NAMEPLATE);
         let excess = groups::base_excess(&network);
         assert_eq!(excess, cuts::base_excess(&network), "{book:?}");
         assert_eq!(excess.amount == 0, cuts::fitting_flow(&network).is_some_and(|flow| network.fits(&flow)));
@@ -50,7 +51,7 @@ fn both_ways_to_cut_agree_on_large_books() {
     let mut random = Random(4);
     for _ in 0..60 {
         let book = served(&mut random, 128, 256);
-        let network = Network::of(&book);
+        let network = Network::of(&book, NAMEPLATE);
         let (mut one, mut other) = (cuts::Cutter::new(&network), cuts::Cutter::new(&network));
         for branch in 0..network.lines.len() {
             assert_eq!(one.verdict(branch), other.verdict_afresh(branch));
@@ -104,7 +105,7 @@ fn tiny(random: &mut Random, buses: usize, count: usize) -> (Network, Vec<i64>) 
         book.injections[branch.second] -= kw;
         flow.push(kw);
     }
-    (Network::of(&book), flow)
+    (Network::of(&book, NAMEPLATE), flow)
 }
 
 #[test]

@@ -45,6 +45,11 @@ fn the_stored_stream_begins_as_it_did_before_refusals_had_a_place() {
     begins_as(36_455, 0x85bd_767b_6b72_0501);
 }
 
+#[test]
+fn the_stored_stream_begins_as_it_did_before_percentages_came() {
+    begins_as(44_145, 0x86b5_83a2_58fe_7d9d);
+}
+
 /// The stream of then, so many bytes, ended in a bad command of 3 bytes, which stops a stream and so is still the last.
 fn begins_as(length: usize, print: u64) {
     let stream = stored::stream();

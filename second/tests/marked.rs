@@ -9,6 +9,7 @@ use second::definitions::limits::limit_in_kw;
 use second::definitions::meters::{advance, injections, Registers};
 use second::definitions::network::{Excess, Network, Verdict};
 use second::definitions::outage::{allowed, own_result};
+use second::definitions::percentage::NAMEPLATE;
 use second::definitions::switching::Lent;
 use second::definitions::{cuts, groups, list, record, screen};
 
@@ -17,7 +18,7 @@ fn short(amount: i64, buses: &[usize]) -> Verdict {
 }
 
 fn shows(book: &Book, due: &[Verdict]) {
-    let network = Network::of(&unpack(&pack(book)).unwrap());
+    let network = Network::of(&unpack(&pack(book)).unwrap(), NAMEPLATE);
     assert_eq!(groups::base_excess(&network), Excess { amount: 0, group: 0 });
     for (branch, verdict) in due.iter().enumerate() {
         assert_eq!(groups::verdict(&network, branch), *verdict);
@@ -41,7 +42,7 @@ fn the_largest_old_book_has_1460_bytes() {
 
 #[test]
 fn limits_round_down() {
-    assert_eq!((limit_in_kw(1, 999), limit_in_kw(1000, 999)), (0, 999));
+    assert_eq!((limit_in_kw(1, 999, NAMEPLATE), limit_in_kw(1000, 999, NAMEPLATE)), (0, 999));
 }
 
 #[test]
@@ -55,7 +56,7 @@ fn b_triangle_with_branch_0_out() {
     shows(&with_out(triangle(30), 0), &due);
     let bytes = pack(&triangle(30));
     let (flow, table) = fresh(&bytes);
-    let lent = Lent { book: &bytes, flow: &flow, table: &table };
+    let lent = Lent { percentage: NAMEPLATE, book: &bytes, flow: &flow, table: &table };
     let network = allowed(&lent, 0).unwrap();
     let (after, left) = own_result(&network, &lent, 0);
     for (branch, verdict) in due.into_iter().enumerate().skip(1) {
@@ -67,7 +68,7 @@ fn b_triangle_with_branch_0_out() {
 
 /// A flow and a true table of our own for a book that is not refused.
 fn fresh(bytes: &[u8]) -> (Vec<i64>, Vec<u8>) {
-    let network = screen::screened(bytes, 256, 13312).unwrap();
+    let network = screen::screened(NAMEPLATE, bytes, 256, 13312).unwrap();
     let flow = cuts::fitting_flow(&network).unwrap();
     let table = screen::own_table(&network, &flow);
     (flow, table)
@@ -78,14 +79,14 @@ fn c_then_branch_1_is_refused() {
     let bytes = with_status(&pack(&triangle(30)), 0, false);
     assert_eq!(bytes, pack(&with_out(triangle(30), 0)));
     let (flow, table) = fresh(&bytes);
-    let answer = allowed(&Lent { book: &bytes, flow: &flow, table: &table }, 1).unwrap_err();
+    let answer = allowed(&Lent { percentage: NAMEPLATE, book: &bytes, flow: &flow, table: &table }, 1).unwrap_err();
     assert_eq!(answer, Answer { number: 12, shortage: 30, group: 1, place: None });
 }
 
 #[test]
 fn d_and_e_one_kw_decides() {
     shows(&triangle(20), &[Verdict::Carries; 2]);
-    let network = Network::of(&triangle(19));
+    let network = Network::of(&triangle(19), NAMEPLATE);
     assert_eq!(groups::verdict(&network, 1), short(1, &[0, 1]));
     assert_eq!(cuts::verdict(&network, 1), short(1, &[0, 1]));
 }
@@ -99,7 +100,7 @@ fn f_to_i_the_second_book() {
 
 #[test]
 fn j_the_second_book_overloaded() {
-    let network = Network::of(&second_book(15));
+    let network = Network::of(&second_book(15), NAMEPLATE);
     let due = Excess { amount: 5, group: 0b11 };
     assert_eq!((groups::base_excess(&network), cuts::base_excess(&network)), (due, due));
     assert_eq!(list::list(&pack(&second_book(15))), "refused 12 5 2 0 1\n");

@@ -8,6 +8,7 @@ use second::definitions::answer::Answer;
 use second::definitions::book::{pack, pack_items, unpack, Book};
 use second::definitions::fields::Field;
 use second::definitions::form::Form;
+use second::definitions::percentage::NAMEPLATE;
 use second::definitions::place::{Place, Refusal};
 use second::definitions::switching::Lent;
 use second::definitions::{comeback, list, moves, outage, screen, tables};
@@ -110,10 +111,10 @@ fn the_writer_names_injections_and_numbers() {
 
 /// What each call answers to a book: the reader, the move to either form, the screen, the outage and the return.
 fn answers(book: &[u8]) -> Vec<Answer> {
-    let lent = Lent { book, flow: &[], table: &[] };
+    let lent = Lent { percentage: NAMEPLATE, book, flow: &[], table: &[] };
     let mut answers = vec![Answer::from(tables::read(book, 0, 0).unwrap_err())];
     answers.extend(Form::BOTH.map(|form| Answer::from(moves::moved(book, form, 0).unwrap_err())));
-    answers.push(screen::screened(book, 0, 0).unwrap_err());
+    answers.push(screen::screened(NAMEPLATE, book, 0, 0).unwrap_err());
     answers.extend([outage::allowed(&lent, 999).unwrap_err(), comeback::allowed(&lent, 999).unwrap_err()]);
     answers
 }

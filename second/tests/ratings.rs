@@ -12,6 +12,7 @@ use second::definitions::book::{pack, Book};
 use second::definitions::limits::Limits;
 use second::definitions::network::{Excess, Network, Verdict};
 use second::definitions::outage::{self, own_result};
+use second::definitions::percentage::NAMEPLATE;
 use second::definitions::record::{self, SIZE};
 use second::definitions::switching::Lent;
 use second::definitions::{comeback, cuts, groups, list, screen};
@@ -31,7 +32,7 @@ fn carries(named: &[usize]) -> [u8; SIZE] {
 
 /// What every branch shows, by every group and by cuts; the base excess is 0.
 fn shows(book: &Book, due: &[Verdict]) {
-    let network = Network::of(book);
+    let network = Network::of(book, NAMEPLATE);
     assert_eq!(groups::base_excess(&network), excess(0, &[]));
     for (branch, verdict) in due.iter().enumerate() {
         assert_eq!(groups::verdict(&network, branch), *verdict, "{branch}");
@@ -42,11 +43,11 @@ fn shows(book: &Book, due: &[Verdict]) {
 
 /// What taking a branch out is answered, with a flow and a table of our own; by every group too.
 fn taken_out(book: &Book, branch: usize) -> Answer {
-    let network = Network::of(book);
+    let network = Network::of(book, NAMEPLATE);
     let flow = cuts::fitting_flow(&network).unwrap();
     let table = screen::own_table(&network, &flow);
     let due = groups::base_excess(&network.without(branch));
-    let answer = outage::allowed(&Lent { book: &pack(book), flow: &flow, table: &table }, branch).err();
+    let answer = outage::allowed(&Lent { percentage: NAMEPLATE, book: &pack(book), flow: &flow, table: &table }, branch).err();
     assert_eq!(answer, (due.amount > 0).then(|| Answer::overloaded(due)));
     answer.unwrap_or(Answer::ACCEPTED)
 }
@@ -57,7 +58,7 @@ fn refused(amount: i64, buses: &[usize]) -> Answer {
 
 /// Every whole flow of a book that fits by these limits, with one branch lost if there is one.
 fn flows(book: &Book, limits: Limits, lost: Option<usize>) -> Vec<Vec<i64>> {
-    let mut network = Network::of(book);
+    let mut network = Network::of(book, NAMEPLATE);
     lost.iter().for_each(|&branch| network.lines[branch].served = false);
     let mut found: Vec<Vec<i64>> = vec![Vec::new()];
     for line in &network.lines {
@@ -112,10 +113,10 @@ fn a_refusal_has_another_group_than_the_record() {
 /// The flows that may be left when branch 0 goes out, of all whole flows within the second limits: those that the judge finds
 /// nothing wrong with, with a table of our own. The other branches have no flow.
 fn may_be_left(book: &Book, flow: &[i64], reroute: &[usize]) -> Vec<Vec<i64>> {
-    let (bytes, network) = (pack(book), Network::of(book));
+    let (bytes, network) = (pack(book), Network::of(book, NAMEPLATE));
     let table: Vec<u8> = (0..flow.len()).flat_map(|k| carries(if k == 0 { reroute } else { &[] })).collect();
     assert!(screen::table_holds(&network, flow, &table));
-    let lent = Lent { book: &bytes, flow, table: &table };
+    let lent = Lent { percentage: NAMEPLATE, book: &bytes, flow, table: &table };
     assert!(outage::allowed(&lent, 0).is_ok());
     let mut left = flows(book, Limits::Second, Some(0));
     left.retain(|after| {
@@ -151,8 +152,8 @@ fn the_flow_keeps_to_the_recorded_reroute_where_that_fits_the_normal_limits() {
 fn after_the_detour_the_records_are_by_the_second_limits() {
     let (book, flow) = (detour(), [10, 0, 0]);
     let (bytes, table) = (pack(&book), [carries(&[1]), carries(&[]), carries(&[])].concat());
-    let lent = Lent { book: &bytes, flow: &flow, table: &table };
-    let network = Network::of(&book);
+    let lent = Lent { percentage: NAMEPLATE, book: &bytes, flow: &flow, table: &table };
+    let network = Network::of(&book, NAMEPLATE);
     // With 10 kW on 2, branch 1 is untouched and keeps its record; 2 carries over 1, which has 10 for a short time.
     let due = [[0; SIZE], carries(&[]), carries(&[1])].concat();
     assert!(outage::judge(&network, &lent, 0, &[0, 0, 10], &due).faults.is_empty());
@@ -164,12 +165,12 @@ fn after_the_detour_the_records_are_by_the_second_limits() {
 #[test]
 fn a_flow_between_the_two_limits_does_not_fit() {
     let number = |way: fn(&Lent, usize) -> Result<Network, Answer>, book: &Book, flow: &[i64], branch: usize| {
-        let lent = Lent { book: &pack(book), flow, table: &[0; 200] };
+        let lent = Lent { percentage: NAMEPLATE, book: &pack(book), flow, table: &[0; 200] };
         way(&lent, branch).err().map_or(0, |answer| answer.number)
     };
     let book = pair_and_feeder();
     for (flow, out, back) in [([25, 5, 0], 11, 11), ([30, 0, 0], 11, 11), ([21, 9, 0], 11, 11), ([20, 10, 0], 12, 0)] {
-        assert!(Network::of(&book).fits_within(Limits::Second, &flow));
+        assert!(Network::of(&book, NAMEPLATE).fits_within(Limits::Second, &flow));
         assert_eq!(number(outage::allowed, &book, &flow, 0), out, "{flow:?}");
         assert_eq!(number(comeback::allowed, &book, &flow, 2), back, "{flow:?}");
     }
@@ -206,7 +207,7 @@ fn each_limit_is_rounded_down_on_its_own() {
 #[test]
 fn a_return_writes_its_records_by_the_second_limits() {
     let (book, flow) = (pair_and_feeder(), [20, 10, 0]);
-    let lent = Lent { book: &pack(&book), flow: &flow, table: &[2; 3 * SIZE] };
+    let lent = Lent { percentage: NAMEPLATE, book: &pack(&book), flow: &flow, table: &[2; 3 * SIZE] };
     let network = comeback::allowed(&lent, 2).unwrap();
     let (after, left) = comeback::own_result(&network, &lent, 2);
     assert_eq!(after, flow);
@@ -234,8 +235,8 @@ fn what_a_record_shows_bounds_the_answer() {
     for round in 0..3000 {
         let buses = 2 + random.below(6);
         let count = buses + random.below(buses + 1);
-        let book = if round % 4 == 0 { served(&mut random, buses, count) } else { heavy(&mut random, buses, count).0 };
-        let network = Network::of(&book);
+        let book = if round % 4 == 0 { served(&mut random, buses, count) } else { heavy(&mut random, NAMEPLATE, buses, count).0 };
+        let network = Network::of(&book, NAMEPLATE);
         for branch in (0..count).filter(|&branch| network.lines[branch].served) {
             let (shown, due) = (groups::verdict(&network, branch), groups::base_excess(&network.without(branch)));
             let answer = if due.amount > 0 { Answer::overloaded(due) } else { Answer::ACCEPTED };
@@ -254,8 +255,9 @@ fn what_a_record_shows_bounds_the_answer() {
 
 #[test]
 fn what_contradicts_a_true_record_is_told() {
-    let says =
-        |book: &Book, shown: Verdict, answer: Answer| agrees(&Network::of(book), &record::bytes(shown, &[]), answer).is_ok();
+    let says = |book: &Book, shown: Verdict, answer: Answer| {
+        agrees(&Network::of(book, NAMEPLATE), &record::bytes(shown, &[]), answer).is_ok()
+    };
     assert!(says(&ring_two(), short(10, &[0, 1]), refused(20, &[0])));
     assert!(!says(&ring_two(), short(10, &[0, 1]), refused(9, &[0])));
     assert!(!says(&ring_two(), short(10, &[0, 1]), Answer::ACCEPTED));

@@ -7,6 +7,7 @@ use second::definitions::form::Form;
 use second::definitions::meters::{injections, Registers};
 use second::definitions::network::Network;
 use second::definitions::outage::allowed;
+use second::definitions::percentage::NAMEPLATE;
 use second::definitions::place::Refusal;
 use second::definitions::switching::Lent;
 use second::definitions::{bits, comeback, list, screen, tables};
@@ -124,12 +125,12 @@ fn reading_into_tables_asks_for_four_or_five_numbers_a_branch() {
 fn the_screen_refuses_8_and_12_after_reading() {
     for form in Form::BOTH {
         let bytes = in_form(form, triangle(30));
-        assert_eq!(screen::screened(&bytes, 2, 156).unwrap_err().number, 8);
-        assert_eq!(screen::screened(&bytes, 3, 155).unwrap_err().number, 8);
-        assert!(screen::screened(&bytes, 3, 156).is_ok());
+        assert_eq!(screen::screened(NAMEPLATE, &bytes, 2, 156).unwrap_err().number, 8);
+        assert_eq!(screen::screened(NAMEPLATE, &bytes, 3, 155).unwrap_err().number, 8);
+        assert!(screen::screened(NAMEPLATE, &bytes, 3, 156).is_ok());
         let heavy = in_form(form, plain(&[50, -50], &[(0, 1, 20)]));
-        assert_eq!(screen::screened(&heavy, 0, 52).unwrap_err().number, 8);
-        let answer = screen::screened(&heavy, 1, 52).unwrap_err();
+        assert_eq!(screen::screened(NAMEPLATE, &heavy, 0, 52).unwrap_err().number, 8);
+        let answer = screen::screened(NAMEPLATE, &heavy, 1, 52).unwrap_err();
         assert_eq!((answer.number, answer.shortage, answer.group), (12, 30, 1));
     }
 }
@@ -140,7 +141,9 @@ fn an_outage_refuses_8_to_12_in_order() {
         let bytes = in_form(form, with_out(triangle(30), 0));
         let number = |flow: &[i64], room: usize, branch: usize| {
             let table = vec![0; room];
-            allowed(&Lent { book: &bytes, flow, table: &table }, branch).err().map_or(0, |answer| answer.number)
+            allowed(&Lent { percentage: NAMEPLATE, book: &bytes, flow, table: &table }, branch)
+                .err()
+                .map_or(0, |answer| answer.number)
         };
         assert_eq!(number(&[9; 2], 156, 3), 8);
         assert_eq!(number(&[9; 3], 155, 3), 8);
@@ -152,16 +155,19 @@ fn an_outage_refuses_8_to_12_in_order() {
         assert_eq!(number(&[1, 30, -10], 156, 1), 11);
         assert_eq!(number(&[0, 30, -10], 156, 1), 12);
         let spare = in_form(form, plain(&[0, 0], &[(0, 1, 5)]));
-        assert!(allowed(&Lent { book: &spare, flow: &[0], table: &[0; 52] }, 0).is_ok());
+        assert!(allowed(&Lent { percentage: NAMEPLATE, book: &spare, flow: &[0], table: &[0; 52] }, 0).is_ok());
         let heavy = in_form(form, plain(&[50, -50], &[(0, 1, 20)]));
-        assert_eq!(allowed(&Lent { book: &heavy, flow: &[50], table: &[0; 52] }, 0).unwrap_err().number, 11);
+        assert_eq!(
+            allowed(&Lent { percentage: NAMEPLATE, book: &heavy, flow: &[50], table: &[0; 52] }, 0).unwrap_err().number,
+            11
+        );
     }
 }
 
 /// The number that a return is answered with; 0 where it is accepted.
 fn returned(book: &[u8], flow: &[i64], room: usize, branch: usize) -> u8 {
     let table = vec![0; room];
-    let allowed = comeback::allowed(&Lent { book, flow, table: &table }, branch);
+    let allowed = comeback::allowed(&Lent { percentage: NAMEPLATE, book, flow, table: &table }, branch);
     allowed.err().map_or(0, |answer| {
         assert_eq!((answer.shortage, answer.group), (0, 0));
         answer.number
@@ -202,7 +208,7 @@ fn returns_refuse_in_order(bytes: &[u8]) {
 fn a_return_needs_a_flow_that_fits_before_it() {
     // This flow would fit with branch 0 in service, and does not as long as it is out.
     let bytes = pack(&with_out(triangle(30), 0));
-    assert!(Network::of(&triangle(30)).fits(&[10, 20, 0]));
+    assert!(Network::of(&triangle(30), NAMEPLATE).fits(&[10, 20, 0]));
     assert_eq!(returned(&bytes, &[10, 20, 0], 156, 0), 11);
     // A book with an excess has no fitting flow, so 12 never comes up; a branch out is no 10.
     let heavy = pack(&with_out(plain(&[50, -50], &[(0, 1, 20), (0, 1, 40)]), 1));

@@ -7,6 +7,7 @@ use second::books::random_books::served;
 use second::books::sources::{five_bus, FIVE_3_4, FIVE_3_5, FIVE_FLOWS};
 use second::definitions::book::{pack, unpack, with_status, Book};
 use second::definitions::network::{Excess, Network, Verdict};
+use second::definitions::percentage::NAMEPLATE;
 use second::definitions::record::{self, SIZE};
 use second::definitions::switching::Lent;
 use second::definitions::{comeback, cuts, groups, outage, screen};
@@ -24,7 +25,7 @@ fn carries(named: &[usize]) -> [u8; SIZE] {
 /// The table that our own call leaves; the judge finds nothing wrong with it.
 fn brought_back(book: &Book, flow: &[i64], table: &[u8], branch: usize) -> Vec<u8> {
     let bytes = pack(book);
-    let lent = Lent { book: &bytes, flow, table };
+    let lent = Lent { percentage: NAMEPLATE, book: &bytes, flow, table };
     let network = comeback::allowed(&lent, branch).unwrap();
     let (after, left) = comeback::own_result(&network, &lent, branch);
     assert_eq!(after, flow);
@@ -35,7 +36,7 @@ fn brought_back(book: &Book, flow: &[i64], table: &[u8], branch: usize) -> Vec<u
 /// What the judge says of a table left by a return.
 fn faults(book: &Book, flow: &[i64], lent: &[u8], branch: usize, left: &[u8]) -> usize {
     let bytes = pack(book);
-    let lent = Lent { book: &bytes, flow, table: lent };
+    let lent = Lent { percentage: NAMEPLATE, book: &bytes, flow, table: lent };
     comeback::judge(&comeback::allowed(&lent, branch).unwrap(), &lent, branch, flow, left).faults.len()
 }
 
@@ -45,7 +46,7 @@ fn triangle_branch_0_out_and_back() {
     let bytes = pack(&book);
     // Without 0-1 the 10 kW to bus 1 go over 0-2 and 1-2, without 0-2 the 20 go over the other two; 1-2 has no flow.
     let table = [carries(&[1, 2]), carries(&[0, 2]), carries(&[])].concat();
-    let lent = Lent { book: &bytes, flow: &flow, table: &table };
+    let lent = Lent { percentage: NAMEPLATE, book: &bytes, flow: &flow, table: &table };
     let network = outage::allowed(&lent, 0).unwrap();
     let (after, left) = outage::own_result(&network, &lent, 0);
     assert_eq!(after, [0, 30, -10]);
@@ -103,7 +104,7 @@ fn an_untrue_table_keeps_every_other_record_of_byte_0_1() {
 #[test]
 fn five_bus_branch_3_5_comes_back() {
     let out = with_out(five_bus(), FIVE_3_5);
-    let table = screen::own_table(&Network::of(&out), &FIVE_FLOWS[2]);
+    let table = screen::own_table(&Network::of(&out, NAMEPLATE), &FIVE_FLOWS[2]);
     assert_eq!(record::stretch(&table, FIVE_3_4), short(210_000, &[3, 4]));
     let left = brought_back(&out, &FIVE_FLOWS[2], &table, FIVE_3_5);
     assert_eq!(record::stretch(&left, FIVE_3_4), short(30_000, &[3, 4]));
@@ -119,14 +120,14 @@ struct Held {
 
 impl Held {
     fn screened(book: &Book) -> Held {
-        let network = Network::of(book);
+        let network = Network::of(book, NAMEPLATE);
         let flow = cuts::fitting_flow(&network).unwrap();
         Held { book: pack(book), table: screen::own_table(&network, &flow), flow }
     }
 
     fn switch(&mut self, branch: usize) -> bool {
         let serves = !unpack(&self.book).unwrap().branches[branch].served;
-        let lent = Lent { book: &self.book, flow: &self.flow, table: &self.table };
+        let lent = Lent { percentage: NAMEPLATE, book: &self.book, flow: &self.flow, table: &self.table };
         let left = match serves {
             true => comeback::allowed(&lent, branch).map(|network| comeback::own_result(&network, &lent, branch)),
             false => outage::allowed(&lent, branch).map(|network| outage::own_result(&network, &lent, branch)),
@@ -141,7 +142,7 @@ impl Held {
 
     /// Every record's verdict, shortage and group is that of a fresh screen by every group, and the table is true.
     fn agrees_with_a_fresh_screen(&self) {
-        let network = Network::of(&unpack(&self.book).unwrap());
+        let network = Network::of(&unpack(&self.book).unwrap(), NAMEPLATE);
         assert!(screen::table_holds(&network, &self.flow, &self.table));
         for branch in 0..self.flow.len() {
             let fresh = record::bytes(groups::verdict(&network, branch), &[]);

@@ -7,6 +7,7 @@ use second::definitions::book::{pack, Book};
 use second::definitions::limits::Limits;
 use second::definitions::network::{Excess, Network, Verdict};
 use second::definitions::outage::{allowed, judge, own_result, shortlist};
+use second::definitions::percentage::NAMEPLATE;
 use second::definitions::record;
 use second::definitions::reroutes::{exactly, Exactly};
 use second::definitions::switching::Lent;
@@ -14,7 +15,7 @@ use second::definitions::{cuts, groups, screen};
 
 /// A verdict by both methods; the document's buses count from 1.
 fn verdict(book: &Book, branch: usize) -> Verdict {
-    let network = Network::of(book);
+    let network = Network::of(book, NAMEPLATE);
     assert_eq!(groups::base_excess(&network).amount, 0);
     assert_eq!(cuts::verdict(&network, branch), groups::verdict(&network, branch));
     cuts::verdict(&network, branch)
@@ -27,7 +28,7 @@ fn short_mw(mw: i64, buses_from_1: &[usize]) -> Verdict {
 /// R(S) - P(S) without a branch, in MW: the document's transfer margin of one cut-set.
 fn margin(book: &Book, branch: usize, buses_from_1: &[usize]) -> i64 {
     let group = buses_from_1.iter().fold(0, |group, bus| group | 1 << (bus - 1));
-    -groups::excess_of(&Network::of(book), Limits::Normal, group, Some(branch)) / 1000
+    -groups::excess_of(&Network::of(book, NAMEPLATE), Limits::Normal, group, Some(branch)) / 1000
 }
 
 #[test]
@@ -43,7 +44,7 @@ fn five_bus_margins_of_the_four_cut_sets() {
 
 #[test]
 fn five_bus_three_flows_fit_and_each_lets_3_5_be_rerouted() {
-    let network = Network::of(&five_bus());
+    let network = Network::of(&five_bus(), NAMEPLATE);
     for flow in FIVE_FLOWS {
         assert!(network.fits(&flow));
         assert_eq!(flow[6].abs() + flow[4].abs() + flow[1].abs(), 360_000);
@@ -99,7 +100,7 @@ fn ten_bus_loss_of_4_1_is_short_35_86_mw_for_every_split_of_the_sums() {
             45_000 - through[0] - through[1],
             335_860 - give[0] - give[1] - give[2],
         ];
-        if cuts::base_excess(&Network::of(&ten_bus(&split))).amount == 0 {
+        if cuts::base_excess(&Network::of(&ten_bus(&split), NAMEPLATE)).amount == 0 {
             assert_eq!(verdict(&ten_bus(&split), TEN_1_4), due, "{split:?}");
             tried += 1;
         }
@@ -108,7 +109,7 @@ fn ten_bus_loss_of_4_1_is_short_35_86_mw_for_every_split_of_the_sums() {
 
 #[test]
 fn seven_bus_reroutes_of_table_2_3_make_a_true_table() {
-    let network = Network::of(&seven_bus());
+    let network = Network::of(&seven_bus(), NAMEPLATE);
     let flow = seven_bus_flow();
     assert!(network.fits(&flow));
     for branch in 0..12 {
@@ -123,7 +124,7 @@ fn seven_bus_shortlist_for_the_loss_of_2_1() {
     let bytes = pack(&seven_bus());
     let flow = seven_bus_flow();
     let table: Vec<u8> = (0..12).flat_map(|branch| record::bytes(Verdict::Carries, &seven_reroute(branch))).collect();
-    let lent = Lent { book: &bytes, flow: &flow, table: &table };
+    let lent = Lent { percentage: NAMEPLATE, book: &bytes, flow: &flow, table: &table };
     let network = allowed(&lent, SEVEN_2_1).unwrap();
     let (after, left) = own_result(&network, &lent, SEVEN_2_1);
     let moved: Vec<usize> = (0..12).filter(|&k| after[k] != flow[k]).collect();

@@ -25,7 +25,7 @@ fn commands_come_back_from_their_bytes() {
 #[test]
 fn bad_commands_stop_the_stream() {
     let too_large = [&b"F\x01\x00\0\0\0\0"[..], b"T\x34\x00\0", b"S\x01\x01\0\0", b"B\x08\x35", b"M\0\0\0\0\x81\0"];
-    let returns = [&b"K\x01\x01\0\0\0\0"[..], b"K\0\0\x34\x01\0\0", b"k\0\0\0\0\0\0"];
+    let returns = [&b"K\x01\x01\0\0\0\0"[..], b"K\0\0\x34\x01\0\0", b"k\0\0\0\0\0\0", b"y\x64"];
     let moves = [&b"L\x02\0\0"[..], b"L\xff\0\0", b"L\0\x08\x35", b"L\x01\xff\xff", b"l\0\0\0"];
     let writes =
         [&b"X\0\x01\0\0\0\x01\0\x81\0\0\0\0"[..], b"X\0\x01\0\0\0\x01\0\0\x05\x01\0\0", b"X\0\x01\0\0\0\x01\0\0\0\0\x08\x35"];
@@ -42,6 +42,8 @@ fn bad_commands_stop_the_stream() {
         b"L",
         b"L\0\0",
         b"X\0\x01\0\0\0\x01\0\0\0\0\0",
+        b"Y",
+        b"Y\x32Y",
     ] {
         assert_eq!(output(cut_short), "bad command\n");
     }
@@ -65,10 +67,10 @@ fn the_stored_stream_visits_every_refusal() {
     let stream = stored::stream();
     let (tally, verdict) = judge(&stream, &output(&stream));
     assert_eq!(verdict, Ok(()));
-    for number in 1..=18 {
+    for number in (1..=18).chain([21]) {
         assert!(tally.of(&format!("refused {number:>2}")) > 0, "{number}");
     }
-    for number in [1, 2, 3, 4, 5, 6, 7, 8, 9, 17, 11] {
+    for number in [21, 1, 2, 3, 4, 5, 6, 7, 8, 9, 17, 11] {
         assert!(tally.of(&format!("back refused {number:>2}")) > 0, "{number}");
     }
     assert_eq!((tally.of("back refused 10"), tally.of("back refused 12")), (0, 0));
@@ -110,7 +112,7 @@ fn every_refused_call_of_the_stored_stream_is_followed_by_a_dump() {
 /// After a screen another fitting flow and its table are put in place: the branches are taken in another order.
 fn other_choice(done: &mut Done, random: &mut Random) {
     let accepted = matches!(done.command, Command::Screen { .. }) && done.lines[0].starts_with("screen 0");
-    let Some(network) = accepted.then(|| Network::of(&unpack(done.after.bytes()).unwrap())) else {
+    let Some(network) = accepted.then(|| Network::of(&unpack(done.after.bytes()).unwrap(), done.after.percentage)) else {
         return;
     };
     let count = network.lines.len();

@@ -79,7 +79,7 @@ fn r_reads_either_form() {
 #[test]
 fn a_move_changes_nothing_but_the_shelf_and_nothing_else_changes_that() {
     let (mut moves, mut others) = (0, 0);
-    for seed in 1..=120 {
+    for seed in 1..=160 {
         output_with(&make::stream(seed), &mut |done| {
             let mut due = done.before.clone();
             match (done.command, done.command.answer_in(done.lines)) {
@@ -226,7 +226,7 @@ fn the_stored_stream_holds_every_kind_of_the_new_form() {
 #[test]
 fn random_streams_hold_every_kind_of_the_new_form() {
     let mut tally = Tally::default();
-    (1..=400).for_each(|seed| tally.join(&tally_of(&make::stream(seed))));
+    (1..=540).for_each(|seed| tally.join(&tally_of(&make::stream(seed))));
     for kind in kinds() {
         assert!(tally.of(&kind) >= 2, "{kind}\n{tally}");
     }

@@ -6,6 +6,7 @@ use second::books::random::Random;
 use second::books::random_books::{planned, Plan};
 use second::books::ratings::*;
 use second::definitions::book::{pack, Book};
+use second::definitions::percentage::NAMEPLATE;
 use second::judging::judge::judge;
 use second::judging::tally::Tally;
 use second::streams::make;
@@ -105,7 +106,16 @@ fn random_streams_hold_every_kind_of_two_limits() {
 fn an_old_book_and_the_same_moved_up_are_screened_and_switched_alike() {
     let mut random = Random(41);
     for _ in 0..40 {
-        let plan = Plan { factor: 950, largest: 20, zeros: 8, outs: 8, islands: 1, shape: random.below(5), share: 30 };
+        let plan = Plan {
+            factor: 950,
+            largest: 20,
+            zeros: 8,
+            outs: 8,
+            islands: 1,
+            shape: random.below(5),
+            share: 30,
+            percentage: NAMEPLATE,
+        };
         let (book, _) = planned(&mut random, &plan, 8, 14);
         let mut calls = vec![WHOLE, D];
         for _ in 0..8 {

@@ -98,7 +98,11 @@ fn a_run_of_returns_alone_is_not_mixed() {
 fn refusals_are_counted_by_how_the_table_stands() {
     let of = |number: usize, commands: &[Command]| {
         let tally = counted(commands);
-        let standing = ["from a true table", "from a table true before the book or the flow was changed", "from an untrue table"];
+        let standing = [
+            "from a true table",
+            "from a table true before the book, the flow or the percentage was changed",
+            "from an untrue table",
+        ];
         standing.map(|standing| tally.of(&format!("back refused {number:>2}, {standing}")))
     };
     assert_eq!(of(17, &[back(0)]), [1, 0, 0]);
@@ -133,7 +137,7 @@ fn undone_looks_at_the_book_and_at_verdicts_shortages_and_groups() {
 #[test]
 fn random_streams_hold_returns_of_every_kind() {
     let mut tally = Tally::default();
-    for seed in 1..=250 {
+    for seed in 1..=340 {
         let stream = make::stream(seed);
         let (counted, verdict) = judge(&stream, &output(&stream));
         assert_eq!(verdict, Ok(()), "seed {seed}");

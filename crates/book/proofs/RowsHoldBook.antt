@@ -60,15 +60,15 @@ module _ (bs : List ℕ) (h : Head) (w : HeadRead bs h) where
   unfolding bookOf
   factor-read = w .factor-is
 
-  kw-row : (g : Branch → ℕ) (k : ℕ) → 0 ≡ g noBranch
-      → kwAt (headed (h .branches) (λ i. inKw (limitOf (g (branchAfter (h .form) (h .buses) bs i)) (h .factor))) (replicate 256 (inKw 0))) k
-      ≡ limitOf (g (branch (bookOf bs) k)) (bookOf bs .factor)
-  kw-row g k e =
+  kw-row : (percent : ℕ) (g : Branch → ℕ) (k : ℕ) → 0 ≡ g noBranch
+      → kwAt (headed (h .branches) (λ i. inKw (limitOf (g (branchAfter (h .form) (h .buses) bs i)) (h .factor) percent)) (replicate 256 (inKw 0))) k
+      ≡ limitOf (g (branch (bookOf bs) k)) (bookOf bs .factor) percent
+  kw-row percent g k e =
       rw (← factor-read)
-      (ap (λ (x : Kw). x .0) (branch-row (λ x. inKw (limitOf (g x) (h .factor))) (inKw 0) k (ap inKw (rw (← e) (omega arith)))))
+      (ap (λ (x : Kw). x .0) (branch-row (λ x. inKw (limitOf (g x) (h .factor) percent)) (inKw 0) k (ap inKw (rw (← e) (omega arith)))))
 
-  pub rows-read : (u : BusRows) (v : BranchRows) → GainsRead bs (h .buses) u → BranchesRead bs h v
-      → RowsRead (bookOf bs) (record {
+  pub rows-read : (percent : ℕ) (u : BusRows) (v : BranchRows) → GainsRead bs (h .buses) u → BranchesRead percent bs h v
+      → RowsRead percent (bookOf bs) (record {
         buses = h .buses;
         branches = h .branches;
         first = v .first;
@@ -79,14 +79,14 @@ module _ (bs : List ℕ) (h : Head) (w : HeadRead bs h) where
         gain = u .gain;
         load = u .load;
       })
-  rows-read u v p q = record {
+  rows-read percent u v p q = record {
     buses-are = w .buses-are ∙ sym (buses-of bs);
     branches-are = w .branches-are ∙ sym (count-of bs);
     first-is = λ k. rw (q .first-row) (branch-row (λ x. x .first) 0 k refl);
     second-is = λ k. rw (q .second-row) (branch-row (λ x. x .second) 0 k refl);
     served-is = λ k. rw (q .served-row) (branch-row (λ x. eqb (x .status) 1) false k refl);
-    limit-is = λ k. rw (q .limit-row) (kw-row (λ x. x .kva .0) k refl);
-    loss-is = λ k. rw (q .loss-row) (kw-row (λ x. x .kva2 .0) k refl);
+    limit-is = λ k. rw (q .limit-row) (kw-row percent (λ x. x .kva .0) k refl);
+    loss-is = λ k. rw (q .loss-row) (kw-row percent (λ x. x .kva2 .0) k refl);
     gain-is = λ k. rw (p .gain-row) (bus-row posPart k refl);
     load-is = λ k. rw (p .load-row) (bus-row negPart k refl);
   }

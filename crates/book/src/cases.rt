@@ -1,4 +1,4 @@
-// The rows of the case that an accepted book makes.
+// The rows of the case that an accepted book makes at a percentage of nameplate.
 ghost use mathlib.Core.Path.{_≡_};
 ghost use Prim.Native.Nat.{_≤_};
 ghost use Rattle.answer.specs.declared.Outcome.the-variants.{Accepted};
@@ -54,26 +54,26 @@ struct BranchRows {
     pub loss: [Kw; 256],
 }
 
-// What a branch can carry. Its ratings leave their kVA here alone.
-fn limit_of(x: Branch, factor: u32) -> Kw
-    requires { ⌜ factor ≤ 1000 ⌝ }
-    ensures { λ r. ⌜ r .0 ≡ limitOf (x .kva .0) factor ⌝ }
+// What a branch can carry at a percentage of nameplate. Its ratings leave their kVA here alone.
+fn limit_of(x: Branch, factor: u32, percent: u32) -> Kw
+    requires { ⌜ (factor ≤ 1000) × (percent ≤ 100) ⌝ }
+    ensures { λ r. ⌜ r .0 ≡ limitOf (x .kva .0) factor percent ⌝ }
 {
-    quantity::limit(x.kva, factor)
+    quantity::limit(x.kva, factor, percent)
 }
 
 // What it can carry for a short time, after the loss of another.
-fn loss_of(x: Branch, factor: u32) -> Kw
-    requires { ⌜ factor ≤ 1000 ⌝ }
-    ensures { λ r. ⌜ r .0 ≡ limitOf (x .kva2 .0) factor ⌝ }
+fn loss_of(x: Branch, factor: u32, percent: u32) -> Kw
+    requires { ⌜ (factor ≤ 1000) × (percent ≤ 100) ⌝ }
+    ensures { λ r. ⌜ r .0 ≡ limitOf (x .kva2 .0) factor percent ⌝ }
 {
-    quantity::limit(x.kva2, factor)
+    quantity::limit(x.kva2, factor, percent)
 }
 
 // The ends, the service and the limits in kW of each branch.
-fn branch_rows(book: &[u8], h: Head) -> BranchRows
-    requires { ⌜ (h .buses ≤ 128) × (h .branches ≤ 256) × (h .factor ≤ 1000) ⌝ }
-    ensures { λ r. ⌜ BranchesRead (now (book .entry)) h r ⌝ }
+fn branch_rows(percent: u32, book: &[u8], h: Head) -> BranchRows
+    requires { ⌜ (h .buses ≤ 128) × (h .branches ≤ 256) × (h .factor ≤ 1000) × (percent ≤ 100) ⌝ }
+    ensures { λ r. ⌜ BranchesRead percent (now (book .entry)) h r ⌝ }
 {
     let form = h.form;
     let buses = h.buses;
@@ -89,8 +89,8 @@ fn branch_rows(book: &[u8], h: Head) -> BranchRows
         first[k] = x.first as u8;
         second[k] = x.second as u8;
         served[k] = x.status == 1;
-        limit[k] = limit_of(x, factor);
-        loss[k] = loss_of(x, factor);
+        limit[k] = limit_of(x, factor, percent);
+        loss[k] = loss_of(x, factor, percent);
     }
     BranchRows {
         first,
@@ -102,13 +102,13 @@ fn branch_rows(book: &[u8], h: Head) -> BranchRows
 }
 
 // The rows of an accepted book whose header is read.
-pub fn rows_with(book: &[u8], h: Head) -> CaseRows
-    requires { ⌜ HeadRead (now book) h × (checkOf (now book) ≡ Accepted) ⌝ }
-    ensures { λ r. ⌜ RowsRead (bookOf (now (book .entry))) r ⌝ }
+pub fn rows_with(percent: u32, book: &[u8], h: Head) -> CaseRows
+    requires { ⌜ HeadRead (now book) h × (checkOf (now book) ≡ Accepted) × (percent ≤ 100) ⌝ }
+    ensures { λ r. ⌜ RowsRead percent (bookOf (now (book .entry))) r ⌝ }
 {
     let buses = h.buses;
     let bus = bus_rows(book, buses);
-    let branch = branch_rows(book, h);
+    let branch = branch_rows(percent, book, h);
     let first = branch.first;
     let second = branch.second;
     let served = branch.served;
@@ -130,9 +130,9 @@ pub fn rows_with(book: &[u8], h: Head) -> CaseRows
 }
 
 // The rows of an accepted book.
-pub fn rows_of(book: &[u8]) -> CaseRows
-    requires { ⌜ checkOf (now book) ≡ Accepted ⌝ }
-    ensures { λ r. ⌜ RowsRead (bookOf (now (book .entry))) r ⌝ }
+pub fn rows_of(percent: u32, book: &[u8]) -> CaseRows
+    requires { ⌜ (checkOf (now book) ≡ Accepted) × (percent ≤ 100) ⌝ }
+    ensures { λ r. ⌜ RowsRead percent (bookOf (now (book .entry))) r ⌝ }
 {
-    rows_with(book, layout::head_of(book))
+    rows_with(percent, book, layout::head_of(book))
 }

@@ -42,6 +42,7 @@ fn tell(
 
 #[no_mangle]
 pub extern "C" fn callable_screen(
+    percent: u32,
     book: &[u8],
     flow: &mut [i32],
     table: &mut [u8],
@@ -50,14 +51,15 @@ pub extern "C" fn callable_screen(
     item: &mut usize,
     field: &mut u8,
 ) -> u8
-    ensures { λ r. ⌜ SaidInParts (ScreenEnds (lent (now (book .entry)) (now (flow .entry)) (now (table .entry))) (lent (now (book .entry)) (now (flow .exit)) (now (table .exit)))) r (now (shortage .exit)) (now (group .exit)) (now (item .exit)) (now (field .exit)) ⌝ }
+    ensures { λ r. ⌜ SaidInParts (ScreenEnds percent (lent (now (book .entry)) (now (flow .entry)) (now (table .entry))) (lent (now (book .entry)) (now (flow .exit)) (now (table .exit)))) r (now (shortage .exit)) (now (group .exit)) (now (item .exit)) (now (field .exit)) ⌝ }
 {
-    let answer = screen::screen(book, flow, table);
+    let answer = screen::screen(percent, book, flow, table);
     tell(answer, shortage, group, item, field)
 }
 
 #[no_mangle]
 pub extern "C" fn callable_take_out(
+    percent: u32,
     book: &mut [u8],
     flow: &mut [i32],
     table: &mut [u8],
@@ -67,14 +69,15 @@ pub extern "C" fn callable_take_out(
     item: &mut usize,
     field: &mut u8,
 ) -> u8
-    ensures { λ r. ⌜ SaidInParts (TakeEnds branch (lent (now (book .entry)) (now (flow .entry)) (now (table .entry))) (lent (now (book .exit)) (now (flow .exit)) (now (table .exit)))) r (now (shortage .exit)) (now (group .exit)) (now (item .exit)) (now (field .exit)) ⌝ }
+    ensures { λ r. ⌜ SaidInParts (TakeEnds percent branch (lent (now (book .entry)) (now (flow .entry)) (now (table .entry))) (lent (now (book .exit)) (now (flow .exit)) (now (table .exit)))) r (now (shortage .exit)) (now (group .exit)) (now (item .exit)) (now (field .exit)) ⌝ }
 {
-    let answer = outage::take_out(book, flow, table, branch);
+    let answer = outage::take_out(percent, book, flow, table, branch);
     tell(answer, shortage, group, item, field)
 }
 
 #[no_mangle]
 pub extern "C" fn callable_bring_back(
+    percent: u32,
     book: &mut [u8],
     flow: &[i32],
     table: &mut [u8],
@@ -84,9 +87,9 @@ pub extern "C" fn callable_bring_back(
     item: &mut usize,
     field: &mut u8,
 ) -> u8
-    ensures { λ r. ⌜ SaidInParts (BackEnds branch (lent (now (book .entry)) (now (flow .entry)) (now (table .entry))) (lent (now (book .exit)) (now (flow .entry)) (now (table .exit)))) r (now (shortage .exit)) (now (group .exit)) (now (item .exit)) (now (field .exit)) ⌝ }
+    ensures { λ r. ⌜ SaidInParts (BackEnds percent branch (lent (now (book .entry)) (now (flow .entry)) (now (table .entry))) (lent (now (book .exit)) (now (flow .entry)) (now (table .exit)))) r (now (shortage .exit)) (now (group .exit)) (now (item .exit)) (now (field .exit)) ⌝ }
 {
-    let answer = restore::bring_back(book, flow, table, branch);
+    let answer = restore::bring_back(percent, book, flow, table, branch);
     tell(answer, shortage, group, item, field)
 }
 

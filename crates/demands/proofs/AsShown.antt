@@ -66,18 +66,19 @@ without C f b rec p h l i t = go (t .told)
       overload = short-overload C b (shortageIn rec) (groupIn rec) p h l .0 s;
     })
 
-module _ {now : Lent} (run : Run now) {after : Lent} {b : ℕ} {r : Answer} (e : TakeEnds b now after r) (there : b < branchesIn (now .book))
-    (in-service : caseIn (now .book) .served b ≡ true) where
+module _ {percent : ℕ} {now : Lent} (run : Run percent now) {after : Lent} {b : ℕ} {r : Answer} (e : TakeEnds percent b now after r)
+    (there : b < branchesIn (now .book))
+    (in-service : caseIn percent (now .book) .served b ≡ true) where
   abbrev rec : List ℕ
   rec = recordAt (now .table) b
 
-  shown : TrueRecord (caseIn (now .book)) (on (now .flow)) b rec
-  shown = run-true run .each b (omega (arith, branches-of (now .book)))
+  shown : TrueRecord (caseIn percent (now .book)) (on (now .flow)) b rec
+  shown = run-true run .each b (omega (arith, branches-of percent (now .book)))
 
   -- Accepted: it may be taken out for good, so it carries for a short time.
   pub accepted-carried : r ≡ accepted → verdictIn rec ≡ 1
   accepted-carried a =
-      let C = caseIn (now .book) in
+      let C = caseIn percent (now .book) in
       carries-exactly C (run-posed run) (on (now .flow)) b rec shown in-service .1
       (spare-carries C b (run-posed run)
       (fits-none (out C b) (on (after .flow)) (posed-out run e there in-service) (take-done e a .took .updated .fits)))
@@ -86,11 +87,11 @@ module _ {now : Lent} (run : Run now) {after : Lent} {b : ℕ} {r : Answer} (e :
   pub short-refused : verdictIn rec ≡ 2 → (numberOf (r .outcome) ≡ 12) × (shortageIn rec ≤ shortageOf (r .outcome))
   short-refused v = go e
     where
-      go : TakeEnds b now after r → (numberOf (r .outcome) ≡ 12) × (shortageIn rec ≤ shortageOf (r .outcome))
+      go : TakeEnds percent b now after r → (numberOf (r .outcome) ≡ 12) × (shortageIn rec ≤ shortageOf (r .outcome))
       go (refuses n a k) = absurd (n (call-checked run e there in-service))
       go (unfit c n a k) = absurd (n (run-fits run))
       go (overloads c f o k) =
-          let C = caseIn (now .book) in
+          let C = caseIn percent (now .book) in
           let s = short-shows C (run-posed run) (on (now .flow)) b rec shown v in (
             o .answer .number-is,
             omega (
@@ -104,11 +105,11 @@ module _ {now : Lent} (run : Run now) {after : Lent} {b : ℕ} {r : Answer} (e :
 
   -- Where both figures are equal on every branch, the word shown is the answer.
   module _ (equal : Equal (bookOf (now .book))) where
-    says : Without (caseIn (now .book)) b rec
+    says : Without (caseIn percent (now .book)) b rec
     says =
-        let C = caseIn (now .book) in
+        let C = caseIn percent (now .book) in
         without C (on (now .flow)) b rec (run-posed run) (fits-none C (on (now .flow)) (run-posed run) (run-fits run))
-        (level-of (bookOf (now .book)) equal) in-service shown
+        (level-of percent (bookOf (now .book)) equal) in-service shown
 
     -- Which of the two it is.
     data Which : Type 0 where
@@ -118,12 +119,13 @@ module _ {now : Lent} (run : Run now) {after : Lent} {b : ℕ} {r : Answer} (e :
     which : Which
     which = go says e
       where
-        go : Without (caseIn (now .book)) b rec → TakeEnds b now after r → Which
+        go : Without (caseIn percent (now .book)) b rec → TakeEnds percent b now after r → Which
         go w (refuses n a k) = absurd (n (call-checked run e there in-service))
         go w (unfit c n a k) = absurd (n (run-fits run))
-        go (spared v h) (overloads c f o k) = absurd (never-overload (out (caseIn (now .book)) b) (o .shortage) (has (o .group)) h (o .overload))
+        go (spared v h) (overloads c f o k) = absurd (never-overload (out (caseIn percent (now .book)) b) (o .shortage) (has (o .group)) h
+            (o .overload))
         go (spared v h) (accepts c f a o) = was-carrying v (is-accepted a)
-        go (missed v x) (overloads c f o k) = was-short v (overloaded-same (out (caseIn (now .book)) b) r _ o x)
+        go (missed v x) (overloads c f o k) = was-short v (overloaded-same (out (caseIn percent (now .book)) b) r _ o x)
         go (missed v x) (accepts c f a o) = absurd (omega (arith, v, accepted-carried (is-accepted a)))
 
     pub accepted-as-shown : (r ≡ accepted) ↔ (verdictIn rec ≡ 1)
@@ -139,5 +141,5 @@ module _ {now : Lent} (run : Run now) {after : Lent} {b : ℕ} {r : Answer} (e :
     ]
 
     -- An accepted call changed flow only on its branch and on branches that its recorded reroute names.
-    pub equal-confined : r ≡ accepted → Confined (caseIn (now .book)) (on (now .flow)) rec b (on (after .flow))
+    pub equal-confined : r ≡ accepted → Confined (caseIn percent (now .book)) (on (now .flow)) rec b (on (after .flow))
     equal-confined a = let h = equal-reroute run e equal there (accepted-carried a) in call-confined run e a (h .0) (h .1 .0) (h .1 .1)

@@ -36,10 +36,11 @@ wired-out C b = record { same-buses = refl; same-branches = refl; same-first = r
 untouched : (C : Case) (f g : List ℤ) (b j : ℕ) → (Touched (on f) (on g) b j → ⊥) → Untouched C (out C b) f g j
 untouched C f g b j n = (sym (stable (on f j) (on g j) (λ d. n (changed d))), sym (served-other C b false j (λ e. n (itself e))))
 
-pub call-true : {b : ℕ} {before after : Lent} → Posed (caseIn (before .book)) → TakenOut b before after
-    → TrueTable (caseIn (before .book)) (before .flow) (before .table) → TrueTable (out (caseIn (before .book)) b) (after .flow) (after .table)
-call-true {b} {before} {after} p o t =
-    let C = caseIn (before .book) in
+pub call-true : {percent b : ℕ} {before after : Lent} → Posed (caseIn percent (before .book)) → TakenOut percent b before after
+    → TrueTable (caseIn percent (before .book)) (before .flow) (before .table)
+    → TrueTable (out (caseIn percent (before .book)) b) (after .flow) (after .table)
+call-true {percent} {b} {before} {after} p o t =
+    let C = caseIn percent (before .book) in
     let T = Touched (on (before .flow)) (on (after .flow)) b in
     stays-true C (out C b) _ before after refl (shortlisted? (out C b) (before .table) T (touched? (on (before .flow)) (on (after .flow)) b))
     (λ k l n r. keep C (out C b) T (before .flow) (after .flow) (before .table) k (wired-out C b) (posed-status C b false p) (t .fits) (o .updated .fits) l
@@ -52,10 +53,12 @@ carrying : (table : List ℕ) (b k : ℕ) → (Anew table b k → ⊥) → verdi
 carrying table b k n = elim (ℕ-discrete (verdictIn (recordAt table k)) 1) [ yes v ↦ v | no m ↦ absurd (n (not-carrying m)) ]
 
 -- Every record that isn't written anew is as true of the changed book and of the same flow.
-pub back-true : {b : ℕ} {before after : Lent} → Posed (caseIn (before .book)) → caseIn (before .book) .served b ≡ false → BroughtBack b before after
-    → TrueTable (caseIn (before .book)) (before .flow) (before .table) → TrueTable (back (caseIn (before .book)) b) (after .flow) (after .table)
-back-true {b} {before} {after} p off o t =
-    let C = caseIn (before .book) in
+pub back-true : {percent b : ℕ} {before after : Lent} → Posed (caseIn percent (before .book)) → caseIn percent (before .book) .served b ≡ false
+    → BroughtBack percent b before after
+    → TrueTable (caseIn percent (before .book)) (before .flow) (before .table)
+    → TrueTable (back (caseIn percent (before .book)) b) (after .flow) (after .table)
+back-true {percent} {b} {before} {after} p off o t =
+    let C = caseIn percent (before .book) in
     stays-true C (back C b) _ before after refl (anew? (before .table) b)
     (λ k l n r. rw (o .flow-is)
     (keep-back C b off (on (before .flow)) k (recordAt (before .table) k) p (t .fits) l (carrying (before .table) b k n) r))

@@ -100,11 +100,12 @@ meters {R} {out} {out′} {r} d =
     by-checks meterNumbers meterNumbers _ (answerTo R (length out)) r (meter-gives R (length out)) refl (d .answer) (λ h. d .output ∙ leaves _ out _ (not-bare _ r (meter-answer R d) h))
 
 -- ---- A screen, and every call that is lent a book, its flow and its table.
-pub screens : {before after : Lent} {r : Answer} → ScreenEnds before after r → Answered (12 ∷ lentNumbers) (after ≡ before) r
+pub screens : {percent : ℕ} {before after : Lent} {r : Answer} → ScreenEnds percent before after r → Answered (12 ∷ lentNumbers) (after ≡ before) r
 unfolding member inside
-screens {before} {after} {r} (refuses n a k) = by-checks lentNumbers (12 ∷ lentNumbers) _ (screenCheck before) r (lent-gives _ _ _) refl a (λ h. k)
-screens {before} {after} {r} (overloads c o k) = by-overload (12 ∷ lentNumbers) _ _ r o refl k
-screens {before} {after} {r} (accepts c a s) = by-number (12 ∷ lentNumbers) _ 0 r a refl refl (λ h. absurd (h (said-same a said-accepted)))
+screens {percent} {before} {after} {r} (refuses n a k) = by-checks lentNumbers (12 ∷ lentNumbers) _ (screenCheck percent before) r
+    (lent-gives _ _ _ _) refl a (λ h. k)
+screens {r = r} (overloads c o k) = by-overload (12 ∷ lentNumbers) _ _ r o refl k
+screens {r = r} (accepts c a s) = by-number (12 ∷ lentNumbers) _ 0 r a refl refl (λ h. absurd (h (said-same a said-accepted)))
 
 -- The checks give ns; the list ms has these and 11, and it has 12 where that is given.
 pub answers : (ns ms : List ℕ) {check : Outcome} {C D : Case} {done : Type 0} {before after : Lent} {r : Answer} → Gives ns check
@@ -116,29 +117,29 @@ answers ns ms {check} {C} {D} {done} {before} {after} {r} g i m v (call.unfit c 
 answers ns ms {check} {C} {D} {done} {before} {after} {r} g i m v (call.overloads c f o k) = by-overload ms _ D r o (v o) k
 answers ns ms {check} {C} {D} {done} {before} {after} {r} g i m v (call.accepts c f a o) = by-number ms _ 0 r a refl refl (λ h. absurd (h (said-same a said-accepted)))
 
-module _ {b : ℕ} {before after : Lent} {r : Answer} where
-  pub takes : TakeEnds b before after r → Answered (11 ∷ 12 ∷ takeNumbers) (after ≡ before) r
+module _ {percent b : ℕ} {before after : Lent} {r : Answer} where
+  pub takes : TakeEnds percent b before after r → Answered (11 ∷ 12 ∷ takeNumbers) (after ≡ before) r
   unfolding member inside
-  takes e = answers takeNumbers (11 ∷ 12 ∷ takeNumbers) (take-gives _ _ _ _) refl refl (λ o. refl) e
+  takes e = answers takeNumbers (11 ∷ 12 ∷ takeNumbers) (take-gives _ _ _ _ _) refl refl (λ o. refl) e
 
   -- A return gives 11, or a number of its checks; 12 isn't in the list.
-  pub backs : BackEnds b before after r → Answered (11 ∷ backNumbers) (after ≡ before) r
+  pub backs : BackEnds percent b before after r → Answered (11 ∷ backNumbers) (after ≡ before) r
   unfolding member inside
-  backs e = answers backNumbers (11 ∷ backNumbers) (back-gives _ _ _ _) refl refl (λ o. absurd (back-never-12 e (o .answer .number-is))) e
+  backs e = answers backNumbers (11 ∷ backNumbers) (back-gives _ _ _ _ _) refl refl (λ o. absurd (back-never-12 e (o .answer .number-is))) e
 
   -- No outage ends with 17.
-  pub take-never-17 : TakeEnds b before after r → numberOf (r .outcome) ≡ 17 → ⊥
+  pub take-never-17 : TakeEnds percent b before after r → numberOf (r .outcome) ≡ 17 → ⊥
   unfolding member
   take-never-17 e = never (takes e) 17 refl
 
   -- No return ends with 10.
-  pub back-never-10 : BackEnds b before after r → numberOf (r .outcome) ≡ 10 → ⊥
+  pub back-never-10 : BackEnds percent b before after r → numberOf (r .outcome) ≡ 10 → ⊥
   unfolding member
   back-never-10 e = never (backs e) 10 refl
 
 -- ---- The first test that fails is the one that is given.
-pub screen-first : {before after : Lent} {r : Answer} → ScreenEnds before after r → (screenCheck before ≡ Accepted → ⊥)
-    → SaidBy (screenCheck before) r
+pub screen-first : {percent : ℕ} {before after : Lent} {r : Answer} → ScreenEnds percent before after r → (screenCheck percent before ≡ Accepted → ⊥)
+    → SaidBy (screenCheck percent before) r
 screen-first (refuses n a k) h = a
 screen-first (overloads c o k) h = absurd (h c)
 screen-first (accepts c a s) h = absurd (h c)

@@ -22,13 +22,13 @@ use Rattle.verdict.proofs.Fitting.{fits-none}
 use Rattle.verdict.proofs.Loss.{never-overload}
 use Rattle.verdict.proofs.Shown as told
 use Rattle.state.specs.Case.{caseIn}
-use Rattle.state.proofs.Checked.{passed, posed-book}
+use Rattle.state.proofs.Checked.{passed, posed-passed}
 use Rattle.screen.specs.Promise.{screenCheck, ScreenEnds, refuses, overloads, accepts}
 use Rattle.demands.proofs.Ends.{done, over-12, is-accepted}
 
-module _ {before after : Lent} {r : Answer} (e : ScreenEnds before after r) where
+module _ {percent : ℕ} {before after : Lent} {r : Answer} (e : ScreenEnds percent before after r) where
   abbrev C : Case
-  C = caseIn (before .book)
+  C = caseIn percent (before .book)
 
   -- ---- An accepted screen, branch by branch.
   module _ (a : r ≡ accepted) (k : ℕ) (there : k < C .branches) where
@@ -94,9 +94,9 @@ module _ {before after : Lent} {r : Answer} (e : ScreenEnds before after r) wher
   pub refused-surplus : numberOf (r .outcome) ≡ 12 → pos 0 <ℤ P C (has (r .group))
   refused-surplus n = told.overload-surplus C (shortageOf (r .outcome)) (has (r .group)) (refused-shows n)
 
-  module _ (checked : screenCheck before ≡ Accepted) where
+  module _ (checked : screenCheck percent before ≡ Accepted) where
     posed-here : Posed C
-    posed-here = posed-book (before .book) (passed (before .book) _ _ checked .book)
+    posed-here = posed-passed (passed (before .book) _ _ checked)
 
     -- Refused with 12 exactly if some group has a surplus above what the branches leaving it may carry.
     pub refused-exactly : (numberOf (r .outcome) ≡ 12) ↔ ((S : Group) × (pos (R C S) <ℤ P C S))
@@ -108,7 +108,7 @@ module _ {before after : Lent} {r : Answer} (e : ScreenEnds before after r) wher
       λ w. from e (w .0) (excess-above C (w .0) .0 (w .1)),
     )
       where
-        from : ScreenEnds before after r → (S : Group) → loads (base C) S + ratings (base C) S < gains (base C) S → numberOf (r .outcome) ≡ 12
+        from : ScreenEnds percent before after r → (S : Group) → loads (base C) S + ratings (base C) S < gains (base C) S → numberOf (r .outcome) ≡ 12
         from (refuses n a k) S h = absurd (n checked)
         from (overloads c o k) S h = o .answer .number-is
         from (accepts c a s) S h = absurd (omega (arith, no-excess-plain C .0 (fits-none C (on (after .flow)) posed-here (s .table-true .fits)) S))
@@ -117,7 +117,7 @@ module _ {before after : Lent} {r : Answer} (e : ScreenEnds before after r) wher
     pub accepted-or-12 : (r ≡ accepted) ⊎ (numberOf (r .outcome) ≡ 12)
     accepted-or-12 = go e
       where
-        go : ScreenEnds before after r → (r ≡ accepted) ⊎ (numberOf (r .outcome) ≡ 12)
+        go : ScreenEnds percent before after r → (r ≡ accepted) ⊎ (numberOf (r .outcome) ≡ 12)
         go (refuses n a k) = absurd (n checked)
         go (overloads c o k) = inr (o .answer .number-is)
         go (accepts c a s) = inl (is-accepted a)
@@ -129,7 +129,7 @@ module _ {before after : Lent} {r : Answer} (e : ScreenEnds before after r) wher
       λ h. from e h,
     )
       where
-        from : ScreenEnds before after r → NoExcess C → (g : ℕ → ℤ) × Fits C (C .limit) g
+        from : ScreenEnds percent before after r → NoExcess C → (g : ℕ → ℤ) × Fits C (C .limit) g
         from (refuses n a k) h = absurd (n checked)
         from (overloads c o k) h = absurd (never-overload C (o .shortage) (has (o .group)) h (o .overload))
         from (accepts c a s) h = (on (after .flow), s .table-true .fits)

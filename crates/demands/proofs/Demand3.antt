@@ -1,5 +1,5 @@
--- Demand 3, over the promises of `screen`, `take_out` and `bring_back` alone: feeders are taken out and come back one after another in a run. Here:
--- what any run leaves, and an outage in it. A return in it: Returns.antt.
+-- Demand 3, over the promises of `screen`, `take_out` and `bring_back` alone: feeders are taken out and come back one after another in a run under
+-- one percentage. Here: what any run leaves, and an outage in it. A return in it: Returns.antt.
 use mathlib.Core.Path.{_≡_, sym, _∙_, subst}
 use mathlib.Core.Bool.{true, false, true≢false}
 use mathlib.Core.List.{List}
@@ -13,6 +13,7 @@ use Rattle.answer.specs.Answer.{numberOf, accepted}
 use Rattle.answer.specs.declared.Outcome.the-variants.{Accepted}
 use Rattle.answer.specs.declared.Answer.{Answer}
 use Rattle.answer.proofs.Said.{said-same}
+use Rattle.quantity.specs.Rating.{percentOut}
 use Rattle.bits.specs.Field.{setBit}
 use Rattle.layout.specs.Layout.{branchesIn, statusBit, bookOf}
 use Rattle.layout.specs.Check.{checkOf}
@@ -27,7 +28,7 @@ use Rattle.forms.proofs.MovedBook.{Equal}
 use Rattle.state.specs.Case.{caseIn}
 use Rattle.state.specs.Call as call
 use Rattle.state.specs.Call.{OverloadSaid}
-use Rattle.state.proofs.Checked.{Passed, passing, posed-book}
+use Rattle.state.proofs.Checked.{Passed, passing, posed-passed}
 use Rattle.state.proofs.Status.{branches-of, level-of, restates}
 use Rattle.state.proofs.OneOverload.{overloaded-same, fits-not-over}
 use Rattle.screen.specs.Promise.{screenCheck, ScreenEnds, refuses, overloads, accepts}
@@ -38,39 +39,47 @@ use Rattle.demands.specs.Run.{Run, screened, taken, returned}
 use Rattle.demands.proofs.Ends.{done, number-of, take-done, back-done, is-accepted}
 use Rattle.demands.proofs.Calls.{call-true, back-true}
 
--- ---- What stands after a run: an accepted book, and a table true of its case and of the flow.
-pub record Stands (l : Lent) : Type 0 where
+-- ---- What stands after a run: a percentage within its range, an accepted book, and a table true of its case and of the flow.
+pub record Stands (percent : ℕ) (l : Lent) : Type 0 where
+  pub in-range : percentOut percent ≡ false
   pub book : checkOf (l .book) ≡ Accepted
-  pub table-true : TrueTable (caseIn (l .book)) (l .flow) (l .table)
+  pub table-true : TrueTable (caseIn percent (l .book)) (l .flow) (l .table)
 
 -- It passes the checks of every call.
-pub stands-passed : {l : Lent} → Stands l → Passed (l .book) (length (l .flow)) (length (l .table))
-stands-passed {l} s = record {
+pub stands-passed : {percent : ℕ} {l : Lent} → Stands percent l → Passed percent (l .book) (length (l .flow)) (length (l .table))
+stands-passed {percent} {l} s = record {
+  in-range = s .in-range;
   book = s .book;
-  flow-room = omega (arith, branches-of (l .book), s .table-true .room);
-  table-room = omega (arith, branches-of (l .book), s .table-true .long);
+  flow-room = omega (arith, branches-of percent (l .book), s .table-true .room);
+  table-room = omega (arith, branches-of percent (l .book), s .table-true .long);
 }
 
 -- An accepted outage leaves it, and so does an accepted return.
-module _ {before after : Lent} {b : ℕ} {r : Answer} where
-  pub take-stands : Stands before → TakeEnds b before after r → r ≡ accepted → Stands after
+module _ {percent : ℕ} {before after : Lent} {b : ℕ} {r : Answer} where
+  pub take-stands : Stands percent before → TakeEnds percent b before after r → r ≡ accepted → Stands percent after
   take-stands s e a =
       let d = take-done e a in
-      record { book = d .took .book-accepted; table-true = rw (d .took .case-is) (call-true (d .posed-case) (d .took) (s .table-true)) }
+      record {
+        in-range = s .in-range;
+        book = d .took .book-accepted;
+        table-true = rw (d .took .case-is) (call-true (d .posed-case) (d .took) (s .table-true));
+      }
 
-  pub back-stands : Stands before → BackEnds b before after r → r ≡ accepted → Stands after
+  pub back-stands : Stands percent before → BackEnds percent b before after r → r ≡ accepted → Stands percent after
   back-stands s e a =
       let d = back-done e a in
       record {
+        in-range = s .in-range;
         book = d .brought .book-accepted;
         table-true = rw (d .brought .case-is) (back-true (d .posed-case) (d .passes .out-now) (d .brought) (s .table-true));
       }
 
 -- Any run of outages and returns leaves it.
-pub run-stands : {l : Lent} → Run l → Stands l
+pub run-stands : {percent : ℕ} {l : Lent} → Run percent l → Stands percent l
 run-stands (screened {before} {after} e a) =
     let d = done e a in
     record {
+      in-range = d .passes .in-range;
       book = rw (d .screened .book-kept) (d .passes .book);
       table-true = rw (d .screened .book-kept) (d .screened .table-true);
     }
@@ -89,15 +98,15 @@ fits-level C b h l w = subst (λ (m : ℕ → ℕ). Fits (out C b) m h) l w
 within-reroute : (C : Case) (f : ℕ → ℤ) (b : ℕ) (rec : List ℕ) (m : Rerouted C f b rec) → Confined C f rec b (m .flow)
 within-reroute C f b rec m j u n q = stable (m .flow j) (f j) (λ d. true≢false (sym (m .exactly j u .1 (n, d)) ∙ q))
 
-module _ {now : Lent} (run : Run now) where
+module _ {percent : ℕ} {now : Lent} (run : Run percent now) where
   abbrev C : Case
-  C = caseIn (now .book)
+  C = caseIn percent (now .book)
 
   pub run-true : TrueTable C (now .flow) (now .table)
   run-true = run-stands run .table-true
 
   pub run-posed : Posed C
-  run-posed = posed-book (now .book) (run-stands run .book)
+  run-posed = posed-passed (stands-passed (run-stands run))
 
   -- Power balances at every bus, and every branch keeps to its limit.
   pub run-fits : Fits C (C .limit) (on (now .flow))
@@ -107,24 +116,30 @@ module _ {now : Lent} (run : Run now) where
   run-balances = run-fits .bus
 
   -- ---- Every verdict, shortage and group equals that of any fresh screen of the book as it then stands.
-  module _ {before after : Lent} {r : Answer} (same-book : before .book ≡ now .book) (e : ScreenEnds before after r) where
+  module _ {before after : Lent} {r : Answer} (same-book : before .book ≡ now .book) (e : ScreenEnds percent before after r) where
     -- a fresh screen that is lent enough isn't refused
     pub run-screens : branchesIn (now .book) ≤ length (before .flow) → 52 * branchesIn (now .book) ≤ length (before .table) → r ≡ accepted
     run-screens l m = go e
       where
-        go : ScreenEnds before after r → r ≡ accepted
-        go (refuses n a k) = absurd (n (passing _ _ _ (record { book = rw same-book (run-stands run .book); flow-room = rw same-book l; table-room = rw same-book m })))
-        go (overloads c o k) = absurd (fits-not-over C (on (now .flow)) r run-posed run-fits (subst (λ (bs : List ℕ). OverloadSaid (caseIn bs) r) same-book o))
+        go : ScreenEnds percent before after r → r ≡ accepted
+        go (refuses n a k) = absurd (n (passing _ _ _ (record {
+          in-range = run-stands run .in-range;
+          book = rw same-book (run-stands run .book);
+          flow-room = rw same-book l;
+          table-room = rw same-book m;
+        })))
+        go (overloads c o k) = absurd (fits-not-over C (on (now .flow)) r run-posed run-fits
+            (subst (λ (bs : List ℕ). OverloadSaid (caseIn percent bs) r) same-book o))
         go (accepts c a s) = is-accepted a
 
     pub run-fresh : r ≡ accepted → (k : ℕ) → k < C .branches → (j : ℕ) → j < 20 → nth (recordAt (now .table) k) j ≡ nth (recordAt (after .table) k) j
     run-fresh a =
         tables-agree C (now .flow) (after .flow) (now .table) (after .table) run-true
-        (subst (λ (bs : List ℕ). TrueTable (caseIn bs) (after .flow) (after .table)) same-book (done e a .screened .table-true))
+        (subst (λ (bs : List ℕ). TrueTable (caseIn percent bs) (after .flow) (after .table)) same-book (done e a .screened .table-true))
 
   -- ---- An outage in the run.
-  module _ {after : Lent} {b : ℕ} {r : Answer} (e : TakeEnds b now after r) where
-    pub call-joins : r ≡ accepted → Run after
+  module _ {after : Lent} {b : ℕ} {r : Answer} (e : TakeEnds percent b now after r) where
+    pub call-joins : r ≡ accepted → Run percent after
     call-joins a = taken b run e a
 
     -- Only shortlisted records were rewritten.
@@ -142,28 +157,35 @@ module _ {now : Lent} (run : Run now) where
     pub equal-reroute : Equal (bookOf (now .book)) → b < branchesIn (now .book) → verdictIn (recordAt (now .table) b) ≡ 1
         → (h : ℕ → ℤ) × (Fits (out C b) (C .limit) h × Confined C (on (now .flow)) (recordAt (now .table) b) b h)
     equal-reroute q there v =
-        let m = carried-by C (on (now .flow)) b (recordAt (now .table) b) (run-true .each b (omega (arith, branches-of (now .book))) .told) v in (
+        let m =
+        carried-by C (on (now .flow)) b (recordAt (now .table) b) (run-true .each b (omega (arith, branches-of percent (now .book))) .told) v in (
           m .flow,
-          (fits-level C b (m .flow) (level-of (bookOf (now .book)) q) (m .fits), within-reroute C (on (now .flow)) b (recordAt (now .table) b) m),
+          (
+            fits-level C b (m .flow) (level-of percent (bookOf (now .book)) q) (m .fits),
+            within-reroute C (on (now .flow)) b
+                (recordAt (now .table) b) m,
+          ),
         )
 
     -- ---- A call on a branch in service answers as the fresh screen of the book without that branch, with the same shortage and group.
     module _ (there : b < branchesIn (now .book)) (in-service : C .served b ≡ true) where
-      pub call-checked : takeCheck (now .book) (length (now .flow)) (length (now .table)) b ≡ Accepted
+      pub call-checked : takeCheck percent (now .book) (length (now .flow)) (length (now .table)) b ≡ Accepted
       call-checked = taking _ _ _ b (record { passes = stands-passed (run-stands run); there = there; in-service = in-service })
 
       pub posed-out : Posed (out C b)
       posed-out = posed-status C b false run-posed
 
-      module _ {fresh left : Lent} {s : Answer} (without : fresh .book ≡ setBit (now .book) (statusBit (now .book) b) 0) (f : ScreenEnds fresh left s)
+      module _ {fresh left : Lent} {s : Answer} (without : fresh .book ≡ setBit (now .book) (statusBit (now .book) b) 0)
+          (f : ScreenEnds percent fresh left s)
           (flow-room : branchesIn (now .book) ≤ length (fresh .flow)) (table-room : 52 * branchesIn (now .book) ≤ length (fresh .table)) where
-        same-case : caseIn (fresh .book) ≡ out C b
-        same-case = rw without (restates (now .book) b 0 (run-stands run .book) there (omega arith) .case-is)
+        same-case : caseIn percent (fresh .book) ≡ out C b
+        same-case = rw without (restates percent (now .book) b 0 (run-stands run .book) there (omega arith) .case-is)
 
-        screen-checked : screenCheck fresh ≡ Accepted
+        screen-checked : screenCheck percent fresh ≡ Accepted
         screen-checked =
-            let c = restates (now .book) b 0 (run-stands run .book) there (omega arith) in
+            let c = restates percent (now .book) b 0 (run-stands run .book) there (omega arith) in
             passing _ _ _ (record {
+              in-range = run-stands run .in-range;
               book = rw without (c .book);
               flow-room = rw without (omega (arith, c .count-is));
               table-room = rw without (omega (arith, c .count-is));
@@ -172,10 +194,10 @@ module _ {now : Lent} (run : Run now) where
         pub call-fresh : r ≡ s
         call-fresh = go e f
           where
-            over : OverloadSaid (caseIn (fresh .book)) s → OverloadSaid (out C b) s
+            over : OverloadSaid (caseIn percent (fresh .book)) s → OverloadSaid (out C b) s
             over o = subst (λ (D : Case). OverloadSaid D s) same-case o
 
-            go : TakeEnds b now after r → ScreenEnds fresh left s → r ≡ s
+            go : TakeEnds percent b now after r → ScreenEnds percent fresh left s → r ≡ s
             go (call.refuses n a k) y = absurd (n call-checked)
             go (call.unfit c n a k) y = absurd (n run-fits)
             go (call.overloads c h o k) (refuses n a k′) = absurd (n screen-checked)

@@ -19,7 +19,7 @@ use Rattle.verdict.proofs.Back.{fits-back}
 use Rattle.state.specs.Case.{caseIn}
 use Rattle.state.specs.Call as call
 use Rattle.state.specs.Call.{lentNumbers, OverloadSaid, Ends}
-use Rattle.state.proofs.Checked.{lent-gives, posed-book}
+use Rattle.state.proofs.Checked.{lent-gives, posed-passed}
 use Rattle.state.proofs.OneOverload.{fits-not-over}
 use Rattle.screen.specs.Promise.{screenCheck, ScreenEnds, refuses, overloads, accepts}
 use Rattle.screen.proofs.AcceptedScreen.{Done, accepted-screen}
@@ -46,13 +46,14 @@ pub refused-not : (ns : List ℕ) (o : Outcome) {r : Answer} → member 0 ns ≡
 refused-not ns o z t g n s e = n (ap (λ (x : Answer). x .outcome) (sym (said-is ns o z t g s) ∙ e))
 
 -- ---- A screen.
-module _ {before after : Lent} {r : Answer} where
-  pub done : ScreenEnds before after r → r ≡ accepted → Done before after
+module _ {percent : ℕ} {before after : Lent} {r : Answer} where
+  pub done : ScreenEnds percent before after r → r ≡ accepted → Done percent before after
   done e a = accepted-screen e (ap (λ (x : Answer). x .outcome) a)
 
-  pub over-12 : ScreenEnds before after r → numberOf (r .outcome) ≡ 12 → OverloadSaid (caseIn (before .book)) r
+  pub over-12 : ScreenEnds percent before after r → numberOf (r .outcome) ≡ 12 → OverloadSaid (caseIn percent (before .book)) r
   unfolding member
-  over-12 (refuses n a k) e = absurd (gives-not lentNumbers (screenCheck before) 12 (lent-gives _ _ _) refl (λ z. omega arith) (sym (a .number-is) ∙ e))
+  over-12 (refuses n a k) e = absurd (gives-not lentNumbers (screenCheck percent before) 12 (lent-gives _ _ _ _) refl (λ z. omega arith)
+      (sym (a .number-is) ∙ e))
   over-12 (overloads c o k) e = o
   over-12 (accepts c a s) e = absurd (omega (arith, a .number-is, e))
 
@@ -86,49 +87,51 @@ module _ (ns : List ℕ) {check : Outcome} {C D : Case} {what : Type 0} {before 
   call-accepted? (call.accepts c f a o) = yes (is-accepted a)
 
 -- ---- An outage.
-pub record TakeDone (b : ℕ) (before after : Lent) : Type 0 where
-  pub passes : Takeable (before .book) (length (before .flow)) (length (before .table)) b
-  pub posed-case : Posed (caseIn (before .book))
-  pub fitted : Fits (caseIn (before .book)) (caseIn (before .book) .limit) (on (before .flow))
-  pub took : TakenOut b before after
+pub record TakeDone (percent b : ℕ) (before after : Lent) : Type 0 where
+  pub passes : Takeable percent (before .book) (length (before .flow)) (length (before .table)) b
+  pub posed-case : Posed (caseIn percent (before .book))
+  pub fitted : Fits (caseIn percent (before .book)) (caseIn percent (before .book) .limit) (on (before .flow))
+  pub took : TakenOut percent b before after
 
-pub take-done : {b : ℕ} {before after : Lent} {r : Answer} → TakeEnds b before after r → r ≡ accepted → TakeDone b before after
+pub take-done : {percent b : ℕ} {before after : Lent} {r : Answer} → TakeEnds percent b before after r → r ≡ accepted
+    → TakeDone percent b before after
 unfolding member
-take-done {b} {before} e a =
-    let d = call-done takeNumbers refl refl (take-gives _ _ _ _) e a in
+take-done {percent} {b} {before} e a =
+    let d = call-done takeNumbers refl refl (take-gives _ _ _ _ _) e a in
     let t = takeable (before .book) (length (before .flow)) (length (before .table)) b (d .passes) in
-    record { passes = t; posed-case = posed-book (before .book) (t .passes .book); fitted = d .fitted; took = d .did }
+    record { passes = t; posed-case = posed-passed (t .passes); fitted = d .fitted; took = d .did }
 
 -- ---- A return.
 -- The branch was out of service, the lent flow fitted, and the call did what it promises.
-pub record BackDone (b : ℕ) (before after : Lent) : Type 0 where
-  pub passes : Returnable (before .book) (length (before .flow)) (length (before .table)) b
-  pub posed-case : Posed (caseIn (before .book))
-  pub fitted : Fits (caseIn (before .book)) (caseIn (before .book) .limit) (on (before .flow))
-  pub brought : BroughtBack b before after
+pub record BackDone (percent b : ℕ) (before after : Lent) : Type 0 where
+  pub passes : Returnable percent (before .book) (length (before .flow)) (length (before .table)) b
+  pub posed-case : Posed (caseIn percent (before .book))
+  pub fitted : Fits (caseIn percent (before .book)) (caseIn percent (before .book) .limit) (on (before .flow))
+  pub brought : BroughtBack percent b before after
 
-module _ {b : ℕ} {before after : Lent} {r : Answer} where
+module _ {percent b : ℕ} {before after : Lent} {r : Answer} where
   -- An accepted return has done so.
-  pub back-done : BackEnds b before after r → r ≡ accepted → BackDone b before after
+  pub back-done : BackEnds percent b before after r → r ≡ accepted → BackDone percent b before after
   unfolding member
   back-done e a =
-      let d = call-done backNumbers refl refl (back-gives _ _ _ _) e a in
+      let d = call-done backNumbers refl refl (back-gives _ _ _ _ _) e a in
       let t = returnable (before .book) (length (before .flow)) (length (before .table)) b (d .passes) in
-      record { passes = t; posed-case = posed-book (before .book) (t .passes .book); fitted = d .fitted; brought = d .did }
+      record { passes = t; posed-case = posed-passed (t .passes); fitted = d .fitted; brought = d .did }
 
   -- A return never ends with 12: the lent flow fits the changed book.
-  pub back-never-12 : BackEnds b before after r → numberOf (r .outcome) ≡ 12 → ⊥
+  pub back-never-12 : BackEnds percent b before after r → numberOf (r .outcome) ≡ 12 → ⊥
   unfolding member
   back-never-12 e n =
-      let C = caseIn (before .book) in
-      let d = call-over backNumbers refl refl (back-gives _ _ _ _) e n in
+      let C = caseIn percent (before .book) in
+      let d = call-over backNumbers refl refl (back-gives _ _ _ _ _) e n in
       let t = returnable (before .book) (length (before .flow)) (length (before .table)) b (d .passes) in
-      fits-not-over (back C b) (on (before .flow)) r (posed-status C b true (posed-book (before .book) (t .passes .book)))
+      fits-not-over (back C b) (on (before .flow)) r (posed-status C b true (posed-passed (t .passes)))
       (fits-back C b (t .out-now) (C .limit) (on (before .flow)) (d .fitted)) (d .did)
 
   -- A return that passes its checks, lent a flow that fits, is accepted.
-  pub back-accepted : Returnable (before .book) (length (before .flow)) (length (before .table)) b
-      → Fits (caseIn (before .book)) (caseIn (before .book) .limit) (on (before .flow)) → BackEnds b before after r → r ≡ accepted
+  pub back-accepted : Returnable percent (before .book) (length (before .flow)) (length (before .table)) b
+      → Fits (caseIn percent (before .book)) (caseIn percent (before .book) .limit) (on (before .flow)) → BackEnds percent b before after r
+      → r ≡ accepted
   back-accepted t f (call.refuses n a k) = absurd (n (returning _ _ _ b t))
   back-accepted t f (call.unfit c n a k) = absurd (n f)
   back-accepted t f (call.overloads c h o k) = absurd (back-never-12 (call.overloads c h o k) (o .answer .number-is))

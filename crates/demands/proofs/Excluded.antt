@@ -26,21 +26,22 @@ use Rattle.demands.proofs.Ends.{take-done}
 use Rattle.demands.proofs.Demand1.{call-unfit}
 use Rattle.demands.proofs.Demand3.{call-confined}
 
-module _ {before after : Lent} {b : ℕ} {r : Answer} (e : TakeEnds b before after r) where
+module _ {percent : ℕ} {before after : Lent} {b : ℕ} {r : Answer} (e : TakeEnds percent b before after r) where
   abbrev C : Case
-  C = caseIn (before .book)
+  C = caseIn percent (before .book)
 
   -- One that leaves the book as it was.
   pub book-unchanged : r ≡ accepted → after .book ≡ before .book → ⊥
   book-unchanged a same =
       let d = take-done e a in
-      true≢false (sym (d .passes .in-service) ∙ ap (λ (bs : List ℕ). caseIn bs .served b) (sym same) ∙ ap (λ (D : Case). D .served b) (d .took .case-is) ∙ served-self C b false)
+      true≢false (sym (d .passes .in-service) ∙ ap (λ (bs : List ℕ). caseIn percent bs .served b) (sym same) ∙ ap (λ (D : Case). D .served b)
+      (d .took .case-is) ∙ served-self C b false)
 
   -- One that clears the bit and leaves a table that was true.
   pub table-unchanged : r ≡ accepted → TrueTable C (before .flow) (before .table) → after .table ≡ before .table → ⊥
   table-unchanged a t same =
       let d = take-done e a in
-      let u : b < C .branches = omega (arith, branches-of (before .book), d .passes .there) in
+      let u : b < C .branches = omega (arith, branches-of percent (before .book), d .passes .there) in
       let off : out C b .served b ≡ false = served-self C b false in
       let anew = told.out-exactly (out C b) (posed-status C b false (d .posed-case)) (on (after .flow)) b (recordAt (after .table) b) (d .took .updated .rewritten b u (not-served off)) .1 off in
       let was : verdictIn (recordAt (before .table) b) ≡ 0 = ap (λ (x : List ℕ). verdictIn (recordAt x b)) (sym same) ∙ anew in
@@ -67,11 +68,12 @@ module _ {before after : Lent} {b : ℕ} {r : Answer} (e : TakeEnds b before aft
   one-bit-cleared a = let d = take-done e a in status-set (before .book) (after .book) b 0 (d .passes .passes .book) (d .passes .there) (omega arith) (d .took .book-is) .one-bit
 
   -- One that drops the flow and screens afresh, so that flow changed outside the recorded reroute, though some flow within it fits.
-  pub flow-dropped : Run before → r ≡ accepted → (h : ℕ → ℤ) → Fits (out C b) (C .limit) h
+  pub flow-dropped : Run percent before → r ≡ accepted → (h : ℕ → ℤ) → Fits (out C b) (C .limit) h
       → Confined C (on (before .flow)) (recordAt (before .table) b) b h
       → (j : ℕ) → j < C .branches → (j ≡ b → ⊥) → names (recordAt (before .table) b) j ≡ false → (on (after .flow) j ≡ on (before .flow) j → ⊥) → ⊥
   flow-dropped run a h w c j u n q d = d (call-confined run e a h w c j u n q)
 
   -- One that tests 11 after 12: a lent flow that doesn't fit is refused with 11, whatever the changed book's excess.
-  pub eleven-first : takeCheck (before .book) (length (before .flow)) (length (before .table)) b ≡ Accepted → (Fits C (C .limit) (on (before .flow)) → ⊥) → SaidBy (refusal 11) r
+  pub eleven-first : takeCheck percent (before .book) (length (before .flow)) (length (before .table)) b ≡ Accepted
+      → (Fits C (C .limit) (on (before .flow)) → ⊥) → SaidBy (refusal 11) r
   eleven-first = call-unfit e

@@ -24,9 +24,9 @@ use Rattle.demands.proofs.Ends.{back-done}
 use Rattle.demands.proofs.Demand1.{call-first, call-unfit}
 use Rattle.demands.proofs.Returns.{return-flow, return-own, return-rewrites}
 
-module _ {before after : Lent} {b : ℕ} {r : Answer} (e : BackEnds b before after r) where
+module _ {percent : ℕ} {before after : Lent} {b : ℕ} {r : Answer} (e : BackEnds percent b before after r) where
   abbrev C : Case
-  C = caseIn (before .book)
+  C = caseIn percent (before .book)
 
   module _ (a : r ≡ accepted) where
     -- One that changes the flow, as a screen of the changed book may.
@@ -54,15 +54,17 @@ module _ {before after : Lent} {b : ℕ} {r : Answer} (e : BackEnds b before aft
         status-set (before .book) (after .book) b 1 (d .passes .passes .book) (d .passes .there) (omega arith) (d .brought .book-is) .one-bit
 
   -- One that tests 11 before 17: a branch in service is refused with 17, whatever the flow.
-  pub seventeen-first : Passed (before .book) (length (before .flow)) (length (before .table)) → b < branchesIn (before .book) → C .served b ≡ true
+  pub seventeen-first : Passed percent (before .book) (length (before .flow)) (length (before .table)) → b < branchesIn (before .book)
+      → C .served b ≡ true
       → SaidBy (refusal 17) r
   seventeen-first p there on-now =
       let bs = before .book in
-      let c = by-status bs (length (before .flow)) (length (before .table)) b 1 17 (passing _ _ _ p) there (branchAt bs b) (formIn bs) (busesIn bs) refl refl refl
-      (served-status bs b there on-now) in
+      let c = by-status percent bs (length (before .flow)) (length (before .table)) b 1 17 (passing _ _ _ p) there (branchAt bs b) (formIn bs)
+      (busesIn bs) refl refl refl
+      (served-status percent bs b there on-now) in
       subst (λ (o : Outcome). SaidBy o r) (sym c) (call-first e (λ q. refusal-stands 17 (c ∙ q)))
 
   -- One that accepts a flow that doesn't fit: past the checks it is refused with 11.
-  pub eleven-after : backCheck (before .book) (length (before .flow)) (length (before .table)) b ≡ Accepted
+  pub eleven-after : backCheck percent (before .book) (length (before .flow)) (length (before .table)) b ≡ Accepted
       → (Fits C (C .limit) (on (before .flow)) → ⊥) → SaidBy (refusal 11) r
   eleven-after = call-unfit e

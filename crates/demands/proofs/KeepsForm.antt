@@ -19,8 +19,8 @@ Kept before after = formIn (after .book) ≡ formIn (before .book)
 refused-kept : {before after : Lent} → after ≡ before → Kept before after
 refused-kept k = ap (λ (l : Lent). formIn (l .book)) k
 
-module _ {b : ℕ} {before after : Lent} {r : Answer} where
-  pub take-keeps-form : TakeEnds b before after r → Kept before after
+module _ {percent b : ℕ} {before after : Lent} {r : Answer} where
+  pub take-keeps-form : TakeEnds percent b before after r → Kept before after
   take-keeps-form (refuses n a k) = refused-kept k
   take-keeps-form (unfit c n a k) = refused-kept k
   take-keeps-form (overloads c f o k) = refused-kept k
@@ -28,7 +28,7 @@ module _ {b : ℕ} {before after : Lent} {r : Answer} where
       let s = switchable (before .book) (length (before .flow)) (length (before .table)) b 0 10 c in
       ap formIn (o .book-is) ∙ form-kept (before .book) b 0 (omega arith) (s .there) (accepted-valid (before .book) (s .passes .book) .exact)
 
-  pub back-keeps-form : BackEnds b before after r → Kept before after
+  pub back-keeps-form : BackEnds percent b before after r → Kept before after
   back-keeps-form (refuses n a k) = refused-kept k
   back-keeps-form (unfit c n a k) = refused-kept k
   back-keeps-form (overloads c f o k) = refused-kept k

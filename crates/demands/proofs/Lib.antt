@@ -1,5 +1,6 @@
 pub mod Ends
 pub mod Demand1
+pub mod Percentage
 pub mod WhereWrong
 pub mod Demand2
 pub mod Unique

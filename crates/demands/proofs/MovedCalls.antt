@@ -34,39 +34,40 @@ use Rattle.demands.proofs.UniqueReturns.{returns-same}
 abbrev beside : List ℕ → Lent → Lent
 beside bs l = lent bs (l .flow) (l .table)
 
-module _ {bs : List ℕ} {f : Form} {room room′ : List ℕ} (ok : checkOf bs ≡ Accepted) (m : MovedTo bs f room room′) where
+module _ (percent : ℕ) {bs : List ℕ} {f : Form} {room room′ : List ℕ} (ok : checkOf bs ≡ Accepted) (m : MovedTo bs f room room′) where
   abbrev moved : List ℕ
   moved = movedBytes bs f
 
   count-moved : branchesIn moved ≡ branchesIn bs
-  count-moved = sym (branches-of moved) ∙ ap (λ (C : Case). C .branches) (m .same-case) ∙ branches-of bs
+  count-moved = sym (branches-of percent moved) ∙ ap (λ (C : Case). C .branches) (m .same-case percent) ∙ branches-of percent bs
 
-  check-moved : (flows bytes : ℕ) → lentCheck moved flows bytes ≡ lentCheck bs flows bytes
+  check-moved : (flows bytes : ℕ) → lentCheck percent moved flows bytes ≡ lentCheck percent bs flows bytes
   unfolding lentCheck
   check-moved flows bytes = rw (ok, m .still-accepted, count-moved) refl
 
-  branch-moved : (flows bytes b v n : ℕ) → branchCheck moved flows bytes b v n ≡ branchCheck bs flows bytes b v n
+  branch-moved : (flows bytes b v n : ℕ) → branchCheck percent moved flows bytes b v n ≡ branchCheck percent bs flows bytes b v n
   unfolding branchCheck
   branch-moved flows bytes b v n = rw (check-moved flows bytes, count-moved, m .says) refl
 
   -- ---- Screens.
   module _ {flow : List ℤ} {table : List ℕ} {after : Lent} {r : Answer} where
-    pub screen-moved : ScreenEnds (lent moved flow table) after r → ScreenEnds (lent bs flow table) (beside bs after) r
+    pub screen-moved : ScreenEnds percent (lent moved flow table) after r → ScreenEnds percent (lent bs flow table) (beside bs after) r
     screen-moved (refuses n a k) =
         refuses (λ q. n (check-moved _ _ ∙ q)) (subst (λ (o : Outcome). SaidBy o r) (check-moved _ _) a) (ap (beside bs) k)
-    screen-moved (overloads c o k) = overloads (sym (check-moved _ _) ∙ c) (subst (λ (C : Case). OverloadSaid C r) (m .same-case) o)
+    screen-moved (overloads c o k) = overloads (sym (check-moved _ _) ∙ c) (subst (λ (C : Case). OverloadSaid C r) (m .same-case percent) o)
         (ap (beside bs) k)
     screen-moved (accepts c a s) = accepts (sym (check-moved _ _) ∙ c) a (record {
-      table-true = rw (← m .same-case) (s .table-true);
+      table-true = rw (← m .same-case percent) (s .table-true);
       book-kept = refl;
       beyond = near (s .beyond);
     })
       where
-        near : Beyond (caseIn moved) (lent moved flow table) after → Beyond (caseIn bs) (lent bs flow table) (beside bs after)
-        near d = rw (← m .same-case)
+        near : Beyond (caseIn percent moved) (lent moved flow table) after → Beyond (caseIn percent bs) (lent bs flow table) (beside bs after)
+        near d = rw (← m .same-case percent)
             (record { flow-long = d .flow-long; flow-rest = d .flow-rest; table-long = d .table-long; table-rest = d .table-rest })
 
-    pub screens-alike : {one : Lent} {s : Answer} → ScreenEnds (lent bs flow table) one s → ScreenEnds (lent moved flow table) after r → s ≡ r
+    pub screens-alike : {one : Lent} {s : Answer} → ScreenEnds percent (lent bs flow table) one s
+        → ScreenEnds percent (lent moved flow table) after r → s ≡ r
     screens-alike x y = screens-same x (screen-moved y) .answers
 
   -- ---- Calls that change the case. X is what the one on the moved book did, Y what the one on the first may then have done, with the book bs′.
@@ -88,14 +89,16 @@ module _ {bs : List ℕ} {f : Form} {room room′ : List ℕ} (ok : checkOf bs �
       (x .0, call.accepts (sym e ∙ q) (subst (λ (C : Case). Fits C (C .limit) (on flow)) c h) a (x .1))
 
   -- The book has its own status bit changed.
-  restated-at : (flows bytes b v n : ℕ) → v < 2 → branchCheck bs flows bytes b v n ≡ Accepted → Restated bs b v (setBit bs (statusBit bs b) v)
-  restated-at flows bytes b v n l c = restates bs b v ok (switchable bs flows bytes b v n c .there) l
+  restated-at : (flows bytes b v n : ℕ) → v < 2 → branchCheck percent bs flows bytes b v n ≡ Accepted
+      → Restated percent bs b v (setBit bs (statusBit bs b) v)
+  restated-at flows bytes b v n l c = restates percent bs b v ok (switchable bs flows bytes b v n c .there) l
 
   module _ {flow : List ℤ} {table : List ℕ} {after : Lent} where
     renewed-moved : (change : Case → Case) (listed : Case → ℕ → Type 0) (bs′ : List ℕ)
-        → Renewed (change (caseIn moved)) (listed (caseIn moved)) (lent moved flow table) after
-        → Renewed (change (caseIn bs)) (listed (caseIn bs)) (lent bs flow table) (beside bs′ after)
-    renewed-moved change listed bs′ u = subst (λ (C : Case). Renewed (change C) (listed C) (lent bs flow table) (beside bs′ after)) (m .same-case)
+        → Renewed (change (caseIn percent moved)) (listed (caseIn percent moved)) (lent moved flow table) after
+        → Renewed (change (caseIn percent bs)) (listed (caseIn percent bs)) (lent bs flow table) (beside bs′ after)
+    renewed-moved change listed bs′ u = subst (λ (C : Case). Renewed (change C) (listed C) (lent bs flow table) (beside bs′ after))
+        (m .same-case percent)
         (record {
           fits = u .fits;
           rewritten = u .rewritten;
@@ -108,10 +111,10 @@ module _ {bs : List ℕ} {f : Form} {room room′ : List ℕ} (ok : checkOf bs �
           };
         })
 
-    pub take-moved : {b : ℕ} {r : Answer} → TakeEnds b (lent moved flow table) after r
-        → (bs′ : List ℕ) × TakeEnds b (lent bs flow table) (beside bs′ after) r
-    take-moved {b} = ends-moved (λ bs′. TakenOut b (lent bs flow table) (beside bs′ after)) (branch-moved _ _ b 0 10) (m .same-case)
-        (ap (λ (C : Case). out C b) (m .same-case)) (λ c o.
+    pub take-moved : {b : ℕ} {r : Answer} → TakeEnds percent b (lent moved flow table) after r
+        → (bs′ : List ℕ) × TakeEnds percent b (lent bs flow table) (beside bs′ after) r
+    take-moved {b} = ends-moved (λ bs′. TakenOut percent b (lent bs flow table) (beside bs′ after)) (branch-moved _ _ b 0 10) (m .same-case percent)
+        (ap (λ (C : Case). out C b) (m .same-case percent)) (λ c o.
         let s = restated-at _ _ b 0 10 (omega arith) c in (
           setBit bs (statusBit bs b) 0,
           record {
@@ -119,18 +122,20 @@ module _ {bs : List ℕ} {f : Form} {room room′ : List ℕ} (ok : checkOf bs �
             book-accepted = s .book;
             case-is = s .case-is;
             updated = renewed-moved (λ C. out C b) (λ C. Shortlisted (out C b) table (Touched (on flow) (on (after .flow)) b)) _ (o .updated);
-            idle = subst (λ (C : Case). on flow b ≡ pos 0 → (j : ℕ) → j < C .branches → on (after .flow) j ≡ on flow j) (m .same-case) (o .idle);
+            idle = subst (λ (C : Case). on flow b ≡ pos 0 → (j : ℕ) → j < C .branches → on (after .flow) j ≡ on flow j) (m .same-case percent)
+                (o .idle);
             confined = subst
                 (λ (C : Case). (h : ℕ → ℤ) → Fits (out C b) (C .limit) h → Confined C (on flow) (recordAt table b) b h
                 → Confined C (on flow) (recordAt table b) b (on (after .flow)))
-                (m .same-case) (o .confined);
+                (m .same-case percent) (o .confined);
           },
         ))
 
-    pub back-moved : {b : ℕ} {r : Answer} → BackEnds b (lent moved flow table) after r
-        → (bs′ : List ℕ) × BackEnds b (lent bs flow table) (beside bs′ after) r
-    back-moved {b} = ends-moved (λ bs′. BroughtBack b (lent bs flow table) (beside bs′ after)) (branch-moved _ _ b 1 17) (m .same-case)
-        (ap (λ (C : Case). back C b) (m .same-case)) (λ c o.
+    pub back-moved : {b : ℕ} {r : Answer} → BackEnds percent b (lent moved flow table) after r
+        → (bs′ : List ℕ) × BackEnds percent b (lent bs flow table) (beside bs′ after) r
+    back-moved {b} = ends-moved (λ bs′. BroughtBack percent b (lent bs flow table) (beside bs′ after)) (branch-moved _ _ b 1 17)
+        (m .same-case percent)
+        (ap (λ (C : Case). back C b) (m .same-case percent)) (λ c o.
         let s = restated-at _ _ b 1 17 (omega arith) c in (
           setBit bs (statusBit bs b) 1,
           record {
@@ -143,8 +148,10 @@ module _ {bs : List ℕ} {f : Form} {room room′ : List ℕ} (ok : checkOf bs �
           },
         ))
 
-    pub takes-alike : {b : ℕ} {one : Lent} {r s : Answer} → TakeEnds b (lent bs flow table) one s → TakeEnds b (lent moved flow table) after r → s ≡ r
+    pub takes-alike : {b : ℕ} {one : Lent} {r s : Answer} → TakeEnds percent b (lent bs flow table) one s
+        → TakeEnds percent b (lent moved flow table) after r → s ≡ r
     takes-alike x y = calls-same x (take-moved y .1) .answers
 
-    pub backs-alike : {b : ℕ} {one : Lent} {r s : Answer} → BackEnds b (lent bs flow table) one s → BackEnds b (lent moved flow table) after r → s ≡ r
+    pub backs-alike : {b : ℕ} {one : Lent} {r s : Answer} → BackEnds percent b (lent bs flow table) one s
+        → BackEnds percent b (lent moved flow table) after r → s ≡ r
     backs-alike x y = returns-same x (back-moved y .1) .same .answers

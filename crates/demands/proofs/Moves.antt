@@ -34,15 +34,15 @@ pub record MovedTo (bs : List ℕ) (f : Form) (out out′ : List ℕ) : Type 0 w
   pub still-accepted : checkOf (movedBytes bs f) ≡ Accepted
   pub form-is : formIn (movedBytes bs f) ≡ f
   pub says : bookOf (movedBytes bs f) ≡ inForm f (bookOf bs)
-  -- so that a screen and every call find the same case
-  pub same-case : caseIn (movedBytes bs f) ≡ caseIn bs
+  -- so that a screen and every call find the same case, at every percentage
+  pub same-case : (percent : ℕ) → caseIn percent (movedBytes bs f) ≡ caseIn percent bs
 
 long-moved : (bs : List ℕ) (f : Form) → length (movedBytes bs f) ≡ bytesFor f (busesIn bs) (branchesIn bs)
 long-moved bs f = length-encode (inForm f (bookOf bs)) ∙ rw (buses-of bs, count-of bs) refl
 
-case-moved : (b : Book) (f : Form) → caseOf (inForm f b) ≡ caseOf b
+case-moved : (percent : ℕ) (b : Book) (f : Form) → caseOf percent (inForm f b) ≡ caseOf percent b
 unfolding caseOf
-case-moved b f = refl
+case-moved percent b f = refl
 
 module _ {bs : List ℕ} {f : Form} {out out′ : List ℕ} {r : Answer} (d : BookMoved bs f out out′ r) where
   pub move-accepted : r ≡ accepted → MovedTo bs f out out′
@@ -58,7 +58,7 @@ module _ {bs : List ℕ} {f : Form} {out out′ : List ℕ} {r : Answer} (d : Bo
         still-accepted = moved-accepted bs f (m .book) (m .holds);
         form-is = form-encode (inForm f (bookOf bs)) w;
         says = says;
-        same-case = ap caseOf says ∙ case-moved (bookOf bs) f;
+        same-case = λ percent. ap (caseOf percent) says ∙ case-moved percent (bookOf bs) f;
       }
 
   module _ (ok : checkOf bs ≡ Accepted) (room : bytesFor f (busesIn bs) (branchesIn bs) ≤ length out) where

@@ -27,37 +27,41 @@ use Rattle.demands.proofs.Demand3.{Stands, take-stands, back-stands}
 use Rattle.demands.proofs.Returns.{stands-returns}
 
 -- What a return leaves after an outage of the same branch.
-pub record OutAndBack (before after : Lent) (s : Answer) : Type 0 where
+pub record OutAndBack (percent : ℕ) (before after : Lent) (s : Answer) : Type 0 where
   pub comes-back : s ≡ accepted
   pub same-book : after .book ≡ before .book
-  pub table-true : TrueTable (caseIn (before .book)) (after .flow) (after .table)
+  pub table-true : TrueTable (caseIn percent (before .book)) (after .flow) (after .table)
   -- bytes 0 to 19: verdict, shortage and group
-  pub same-shown : (k : ℕ) → k < caseIn (before .book) .branches → (j : ℕ) → j < 20
+  pub same-shown : (k : ℕ) → k < caseIn percent (before .book) .branches → (j : ℕ) → j < 20
       → nth (recordAt (after .table) k) j ≡ nth (recordAt (before .table) k) j
 
 -- The bit cleared and set again, by the books that the two calls leave.
-book-again : {before mid : Lent} {after : List ℕ} {b : ℕ} → TakeDone b before mid → after ≡ setBit (mid .book) (statusBit (mid .book) b) 1
+book-again : {percent : ℕ} {before mid : Lent} {after : List ℕ} {b : ℕ} → TakeDone percent b before mid
+    → after ≡ setBit (mid .book) (statusBit (mid .book) b) 1
     → after ≡ before .book
-book-again {before} {mid} {after} {b} d e =
+book-again {percent} {before} {mid} {after} {b} d e =
     let bs = before .book in
     let at = statusBit bs b in
     let n = bit-kept bs b 0 (omega arith) (d .passes .there) (accepted-valid bs (d .passes .passes .book) .exact) b in
     e
     ∙ ap (λ (x : List ℕ). setBit x (statusBit x b) 1) (d .took .book-is)
     ∙ ap (λ (i : ℕ). setBit (setBit bs at 0) i 1) n
-    ∙ set-bit-again bs at 0 1 (omega arith) (served-bit bs b (d .passes .there) (d .passes .in-service))
+    ∙ set-bit-again bs at 0 1 (omega arith) (served-bit percent bs b (d .passes .there) (d .passes .in-service))
 
 -- From any true table.
-pub out-and-back : {before mid after : Lent} {b : ℕ} {r s : Answer} → TrueTable (caseIn (before .book)) (before .flow) (before .table)
-    → TakeEnds b before mid r → r ≡ accepted → BackEnds b mid after s → OutAndBack before after s
-out-and-back {before} {mid} {after} {b} {r} {s} t e a f =
+pub out-and-back : {percent : ℕ} {before mid after : Lent} {b : ℕ} {r s : Answer}
+    → TrueTable (caseIn percent (before .book)) (before .flow) (before .table)
+    → TakeEnds percent b before mid r → r ≡ accepted → BackEnds percent b mid after s → OutAndBack percent before after s
+out-and-back {percent} {before} {mid} {after} {b} {r} {s} t e a f =
     let bs = before .book in
     let d = take-done e a in
-    let m : Stands mid = take-stands (record { book = d .passes .passes .book; table-true = t }) e a in
+    let m : Stands percent mid =
+    take-stands (record { in-range = d .passes .passes .in-range; book = d .passes .passes .book; table-true = t }) e a in
     let n : branchesIn (mid .book) ≡ branchesIn bs =
     ap branchesIn (d .took .book-is) ∙ count-kept bs b 0 (omega arith) (d .passes .there) (accepted-valid bs (d .passes .passes .book) .exact) in
-    let off : caseIn (mid .book) .served b ≡ false = ap (λ (D : Case). D .served b) (d .took .case-is) ∙ served-self (caseIn bs) b false in
+    let off : caseIn percent (mid .book) .served b ≡ false =
+    ap (λ (D : Case). D .served b) (d .took .case-is) ∙ served-self (caseIn percent bs) b false in
     let x = stands-returns m (omega (arith, d .passes .there)) off f in
     let same = book-again d (back-done f x .brought .book-is) in
-    let y = subst (λ (l : List ℕ). TrueTable (caseIn l) (after .flow) (after .table)) same (back-stands m f x .table-true) in
-    record { comes-back = x; same-book = same; table-true = y; same-shown = tables-agree (caseIn bs) _ _ _ _ y t }
+    let y = subst (λ (l : List ℕ). TrueTable (caseIn percent l) (after .flow) (after .table)) same (back-stands m f x .table-true) in
+    record { comes-back = x; same-book = same; table-true = y; same-shown = tables-agree (caseIn percent bs) _ _ _ _ y t }

@@ -22,7 +22,7 @@ use Rattle.demands.proofs.Ends.{back-done, back-accepted}
 use Rattle.demands.proofs.Demand3.{Stands, stands-passed, run-stands, run-screens, run-fresh}
 
 -- ---- An accepted return from any table.
-module _ {before after : Lent} {b : ℕ} {r : Answer} (e : BackEnds b before after r) (a : r ≡ accepted) where
+module _ {percent : ℕ} {before after : Lent} {b : ℕ} {r : Answer} (e : BackEnds percent b before after r) (a : r ≡ accepted) where
   -- No flow changes.
   pub return-flow : after .flow ≡ before .flow
   return-flow = back-done e a .brought .flow-is
@@ -32,7 +32,7 @@ module _ {before after : Lent} {b : ℕ} {r : Answer} (e : BackEnds b before aft
   return-own = back-done e a .brought .own-is
 
   -- A record of byte 0 = 1 that isn't the branch's own keeps its 52 bytes.
-  pub return-rewrites : (k : ℕ) → k < caseIn (before .book) .branches → (k ≡ b → ⊥) → verdictIn (recordAt (before .table) k) ≡ 1
+  pub return-rewrites : (k : ℕ) → k < caseIn percent (before .book) .branches → (k ≡ b → ⊥) → verdictIn (recordAt (before .table) k) ≡ 1
       → recordAt (after .table) k ≡ recordAt (before .table) k
   return-rewrites k l n v = back-done e a .brought .renewed .kept k l none
     where
@@ -41,31 +41,32 @@ module _ {before after : Lent} {b : ℕ} {r : Answer} (e : BackEnds b before aft
       none (not-carrying m) = m v
 
   -- The counts stay.
-  return-branches : caseIn (after .book) .branches ≡ caseIn (before .book) .branches
+  return-branches : caseIn percent (after .book) .branches ≡ caseIn percent (before .book) .branches
   return-branches = ap (λ (D : Case). D .branches) (back-done e a .brought .case-is)
 
   return-count : branchesIn (after .book) ≡ branchesIn (before .book)
-  return-count = sym (branches-of (after .book)) ∙ return-branches ∙ branches-of (before .book)
+  return-count = sym (branches-of percent (after .book)) ∙ return-branches ∙ branches-of percent (before .book)
 
 -- A return of a branch out of service is accepted where a true table stands.
-pub stands-returns : {now after : Lent} {b : ℕ} {r : Answer} → Stands now → b < branchesIn (now .book) → caseIn (now .book) .served b ≡ false
-    → BackEnds b now after r → r ≡ accepted
+pub stands-returns : {percent : ℕ} {now after : Lent} {b : ℕ} {r : Answer} → Stands percent now → b < branchesIn (now .book)
+    → caseIn percent (now .book) .served b ≡ false
+    → BackEnds percent b now after r → r ≡ accepted
 stands-returns s there off = back-accepted (record { passes = stands-passed s; there = there; out-now = off }) (s .table-true .fits)
 
 -- ---- A return in a run.
-module _ {now : Lent} (run : Run now) {after : Lent} {b : ℕ} {r : Answer} (e : BackEnds b now after r) where
+module _ {percent : ℕ} {now : Lent} (run : Run percent now) {after : Lent} {b : ℕ} {r : Answer} (e : BackEnds percent b now after r) where
   -- A branch out of service always comes back.
-  pub return-accepted : b < branchesIn (now .book) → caseIn (now .book) .served b ≡ false → r ≡ accepted
+  pub return-accepted : b < branchesIn (now .book) → caseIn percent (now .book) .served b ≡ false → r ≡ accepted
   return-accepted there off = stands-returns (run-stands run) there off e
 
   module _ (a : r ≡ accepted) where
     -- What the return leaves is a run again.
-    pub return-joins : Run after
+    pub return-joins : Run percent after
     return-joins = returned b run e a
 
     -- ---- Every verdict, shortage and group equals that of any fresh screen of the book with the branch in service.
     module _ {fresh left : Lent} {s : Answer} (with-it : fresh .book ≡ setBit (now .book) (statusBit (now .book) b) 1)
-        (f : ScreenEnds fresh left s) where
+        (f : ScreenEnds percent fresh left s) where
       same-book : fresh .book ≡ after .book
       same-book = with-it ∙ sym (back-done e a .brought .book-is)
 
@@ -74,6 +75,6 @@ module _ {now : Lent} (run : Run now) {after : Lent} {b : ℕ} {r : Answer} (e :
       return-screens l m = run-screens return-joins same-book f (omega (arith, return-count e a)) (omega (arith, return-count e a))
 
       -- and shows the same of every branch
-      pub return-fresh : s ≡ accepted → (k : ℕ) → k < caseIn (now .book) .branches → (j : ℕ) → j < 20
+      pub return-fresh : s ≡ accepted → (k : ℕ) → k < caseIn percent (now .book) .branches → (j : ℕ) → j < 20
           → nth (recordAt (after .table) k) j ≡ nth (recordAt (left .table) k) j
       return-fresh q k l = run-fresh return-joins same-book f q k (omega (arith, return-branches e a))

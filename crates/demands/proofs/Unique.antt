@@ -16,7 +16,7 @@ use Rattle.verdict.proofs.VerdictByCase.{same-record, first-twenty}
 use Rattle.verdict.proofs.Named.{names-only}
 use Rattle.state.specs.Case.{caseIn}
 use Rattle.state.proofs.OneOverload.{overloaded-same, fits-not-over}
-use Rattle.state.proofs.Checked.{passed, posed-book}
+use Rattle.state.proofs.Checked.{passed, posed-passed}
 use Rattle.screen.specs.Promise.{ScreenEnds, refuses, overloads, accepts}
 use Rattle.demands.specs.Same.{FreeFlow, FreeBit, Alike, SameResult}
 use Rattle.answer.proofs.Said.{said-same}
@@ -109,21 +109,21 @@ flows-below C free x h j n = elim (side j (C .branches)) [
 abbrev pub Each : ℕ → Type 0
 Each k = Unit
 
-module _ {before one two : Lent} {r s : Answer} where
-  pub screens-same : ScreenEnds before one r → ScreenEnds before two s
-      → SameResult (caseIn (before .book)) (FreeFlow (caseIn (before .book))) Each Each one two r s
+module _ {percent : ℕ} {before one two : Lent} {r s : Answer} where
+  pub screens-same : ScreenEnds percent before one r → ScreenEnds percent before two s
+      → SameResult (caseIn percent (before .book)) (FreeFlow (caseIn percent (before .book))) Each Each one two r s
   screens-same (refuses n a k) (refuses n′ a′ k′) = kept-same _ _ _ _ (said-same a a′) k k′
   screens-same (refuses n a k) (overloads c o k′) = absurd (n c)
   screens-same (refuses n a k) (accepts c a′ x) = absurd (n c)
   screens-same (overloads c o k) (refuses n a k′) = absurd (n c)
   screens-same (overloads c o k) (overloads c′ o′ k′) = kept-same _ _ _ _ (overloaded-same _ r s o o′) k k′
   screens-same (overloads c o k) (accepts c′ a x) =
-      absurd (fits-not-over _ (on (two .flow)) r (posed-book (before .book) (passed _ _ _ c .book)) (x .table-true .fits) o)
+      absurd (fits-not-over _ (on (two .flow)) r (posed-passed (passed _ _ _ c)) (x .table-true .fits) o)
   screens-same (accepts c a x) (refuses n a′ k) = absurd (n c)
   screens-same (accepts c a x) (overloads c′ o k) =
-      absurd (fits-not-over _ (on (one .flow)) s (posed-book (before .book) (passed _ _ _ c .book)) (x .table-true .fits) o)
+      absurd (fits-not-over _ (on (one .flow)) s (posed-passed (passed _ _ _ c)) (x .table-true .fits) o)
   screens-same (accepts c a x) (accepts c′ a′ y) =
-      let C = caseIn (before .book) in
+      let C = caseIn percent (before .book) in
       let z = beyond-same C (x .beyond) (y .beyond) in
       let f = x .table-true .fits in
       let g = y .table-true .fits in

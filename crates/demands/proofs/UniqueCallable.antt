@@ -48,17 +48,17 @@ module _ {E F : Answer → Type 0} (same : Answer → Answer → Type 0)
         fields = x .place-told .field-is ∙ ap fieldOf p ∙ sym (y .place-told .field-is);
       }
 
-module _ {before one two : Lent} {n v i j m w k l : ℕ} {g h : List ℕ} where
-  pub callable-screens : SaidInParts (ScreenEnds before one) n v g i j → SaidInParts (ScreenEnds before two) m w h k l
-      → SameParts (SameResult (lentCase before) (FreeFlow (lentCase before)) Each Each one two) n v g i j m w h k l
+module _ {percent : ℕ} {before one two : Lent} {n v i j m w k l : ℕ} {g h : List ℕ} where
+  pub callable-screens : SaidInParts (ScreenEnds percent before one) n v g i j → SaidInParts (ScreenEnds percent before two) m w h k l
+      → SameParts (SameResult (lentCase percent before) (FreeFlow (lentCase percent before)) Each Each one two) n v g i j m w h k l
   callable-screens = parts-same _ (λ r s x y. screens-same x y) (λ r s x. x .answers)
 
-  pub callable-takes : (b : ℕ) → SaidInParts (TakeEnds b before one) n v g i j → SaidInParts (TakeEnds b before two) m w h k l
-      → SameParts (SameTaken before b (AgreeTaken before b one two) one two) n v g i j m w h k l
+  pub callable-takes : (b : ℕ) → SaidInParts (TakeEnds percent b before one) n v g i j → SaidInParts (TakeEnds percent b before two) m w h k l
+      → SameParts (SameTaken percent before b (AgreeTaken percent before b one two) one two) n v g i j m w h k l
   callable-takes b = parts-same _ (λ r s x y. calls-same x y) (λ r s x. x .answers)
 
-  pub callable-backs : (b : ℕ) → SaidInParts (BackEnds b before one) n v g i j → SaidInParts (BackEnds b before two) m w h k l
-      → SameParts (SameReturn before b one two) n v g i j m w h k l
+  pub callable-backs : (b : ℕ) → SaidInParts (BackEnds percent b before one) n v g i j → SaidInParts (BackEnds percent b before two) m w h k l
+      → SameParts (SameReturn percent before b one two) n v g i j m w h k l
   callable-backs b = parts-same _ (λ r s x y. returns-same x y) (λ r s x. x .same .answers)
 
 pub callable-moves : {bs : List ℕ} {f : Form} {out o o′ : List ℕ} {n v i j m w k l : ℕ} {g h : List ℕ} → SaidInParts (BookMoved bs f out o) n v g i j

@@ -22,7 +22,7 @@ use Rattle.verdict.proofs.Keep.{stable}
 use Rattle.verdict.proofs.Updates.{shortlisted?}
 use Rattle.state.specs.Case.{caseIn}
 use Rattle.state.specs.Call.{Ends, refuses, unfit, overloads, accepts}
-use Rattle.state.proofs.Checked.{posed-book}
+use Rattle.state.proofs.Checked.{posed-passed}
 use Rattle.state.proofs.OneOverload.{overloaded-same, fits-not-over}
 use Rattle.outage.specs.Promise.{Touched, Confined, takeNumbers, TakenOut, TakeEnds, Judges, TakeCounted}
 use Rattle.outage.specs.declared.Taken.{Taken}
@@ -96,30 +96,33 @@ ends-same C D F L M p x y b f l? (accepts c h a u) (accepts c′ h′ a′ v) =
     renewed-same D L M F (Agree L M) (said-same a a′) (is-accepted a) (b u v) (x u) (y v) (f u v) (renewed-alike D L M l? (x u) (y v))
 
 -- ---- Taking out.
-abbrev pub lentCase : Lent → Case
-lentCase l = caseIn (l .book)
+abbrev pub lentCase : ℕ → Lent → Case
+lentCase percent l = caseIn percent (l .book)
 
 -- The shortlist of a call that left the flow g.
-abbrev pub Listed : Lent → ℕ → List ℤ → ℕ → Type 0
-Listed before b g k = Shortlisted (out (caseIn (before .book)) b) (before .table) (Touched (on (before .flow)) (on g) b) k
+abbrev pub Listed : ℕ → Lent → ℕ → List ℤ → ℕ → Type 0
+Listed percent before b g k = Shortlisted (out (caseIn percent (before .book)) b) (before .table) (Touched (on (before .flow)) (on g) b) k
 
-pub listed? : (before : Lent) (b : ℕ) (g : List ℤ) (k : ℕ) → Dec (Listed before b g k)
-listed? before b g =
-    shortlisted? (out (caseIn (before .book)) b) (before .table) (Touched (on (before .flow)) (on g) b) (touched? (on (before .flow)) (on g) b)
+pub listed? : (percent : ℕ) (before : Lent) (b : ℕ) (g : List ℤ) (k : ℕ) → Dec (Listed percent before b g k)
+listed? percent before b g =
+    shortlisted? (out (caseIn percent (before .book)) b) (before .table) (Touched (on (before .flow)) (on g) b)
+    (touched? (on (before .flow)) (on g) b)
 
 -- Both results have k on their shortlists, or neither has.
-abbrev pub AgreeTaken : Lent → ℕ → Lent → Lent → ℕ → Type 0
-AgreeTaken before b one two = Agree (Listed before b (one .flow)) (Listed before b (two .flow))
+abbrev pub AgreeTaken : ℕ → Lent → ℕ → Lent → Lent → ℕ → Type 0
+AgreeTaken percent before b one two = Agree (Listed percent before b (one .flow)) (Listed percent before b (two .flow))
 
 -- The same result, as far as `agreed`.
-abbrev pub SameTaken : Lent → ℕ → (ℕ → Type 0) → Lent → Lent → Answer → Answer → Type 0
-SameTaken before b agreed one two =
-    SameResult (out (lentCase before) b) (FreeTaken before b) (Either (Listed before b (one .flow)) (Listed before b (two .flow))) agreed one two
+abbrev pub SameTaken : ℕ → Lent → ℕ → (ℕ → Type 0) → Lent → Lent → Answer → Answer → Type 0
+SameTaken percent before b agreed one two =
+    SameResult (out (lentCase percent before) b) (FreeTaken percent before b)
+    (Either (Listed percent before b (one .flow)) (Listed percent before b (two .flow))) agreed one two
 
-module _ {before one two : Lent} {b : ℕ} where
+module _ {percent : ℕ} {before one two : Lent} {b : ℕ} where
   -- A flow number that both left otherwise is free.
-  free-taken : TakenOut b before one → TakenOut b before two → (j : ℕ) → j < lentCase before .branches → out (lentCase before) b .served j ≡ true
-      → (on (one .flow) j ≡ on (two .flow) j → ⊥) → FreeTaken before b j
+  free-taken : TakenOut percent b before one → TakenOut percent b before two → (j : ℕ) → j < lentCase percent before .branches
+      → out (lentCase percent before) b .served j ≡ true
+      → (on (one .flow) j ≡ on (two .flow) j → ⊥) → FreeTaken percent before b j
   free-taken x y j l i d = record {
     left = record { there = l; in-service = i };
     flowing = λ z. d (x .idle z j l ∙ sym (y .idle z j l));
@@ -127,40 +130,44 @@ module _ {before one two : Lent} {b : ℕ} where
   }
     where
       apart : j ≡ b → ⊥
-      apart e = true≢false (sym i ∙ ap (out (lentCase before) b .served) e ∙ served-self (lentCase before) b false)
+      apart e = true≢false (sym i ∙ ap (out (lentCase percent before) b .served) e ∙ served-self (lentCase percent before) b false)
 
-      is-named : (h : ℕ → ℤ) → Fits (out (lentCase before) b) (lentCase before .limit) h
-          → Confined (lentCase before) (on (before .flow)) (recordAt (before .table) b) b h
+      is-named : (h : ℕ → ℤ) → Fits (out (lentCase percent before) b) (lentCase percent before .limit) h
+          → Confined (lentCase percent before) (on (before .flow)) (recordAt (before .table) b) b h
           → (t : Bool) → names (recordAt (before .table) b) j ≡ t → names (recordAt (before .table) b) j ≡ true
       is-named h w c true e = e
       is-named h w c false e = absurd (d (x .confined h w c j l apart e ∙ sym (y .confined h w c j l apart e)))
 
-  flows-taken : TakenOut b before one → TakenOut b before two → (j : ℕ) → j < lentCase before .branches → (FreeTaken before b j → ⊥)
+  flows-taken : TakenOut percent b before one → TakenOut percent b before two → (j : ℕ) → j < lentCase percent before .branches
+      → (FreeTaken percent before b j → ⊥)
       → on (one .flow) j ≡ on (two .flow) j
   flows-taken x y j l n =
-      still-same (out (lentCase before) b) (on (one .flow)) (on (two .flow)) (x .updated .fits) (y .updated .fits) j l
-      (out (lentCase before) b .served j) refl
+      still-same (out (lentCase percent before) b) (on (one .flow)) (on (two .flow)) (x .updated .fits) (y .updated .fits) j l
+      (out (lentCase percent before) b .served j) refl
       (λ i. stable _ _ (λ d. n (free-taken x y j l i d)))
 
   module _ {r s : Answer} where
     -- From any table.
-    pub calls-same : TakeEnds b before one r → TakeEnds b before two s
-        → SameTaken before b (AgreeTaken before b one two) one two r s
+    pub calls-same : TakeEnds percent b before one r → TakeEnds percent b before two s
+        → SameTaken percent before b (AgreeTaken percent before b one two) one two r s
     calls-same =
-        ends-same (lentCase before) (out (lentCase before) b) (FreeTaken before b) (Listed before b (one .flow)) (Listed before b (two .flow))
-        (λ c. posed-status _ b _ (posed-book (before .book) (takeable _ _ _ b c .passes .book)))
-        (λ o. o .updated) (λ o. o .updated) (λ o u. o .book-is ∙ sym (u .book-is)) flows-taken (listed? before b (one .flow))
+        ends-same (lentCase percent before) (out (lentCase percent before) b) (FreeTaken percent before b) (Listed percent before b (one .flow))
+        (Listed percent before b (two .flow))
+        (λ c. posed-status _ b _ (posed-passed (takeable _ _ _ b c .passes)))
+        (λ o. o .updated) (λ o. o .updated) (λ o u. o .book-is ∙ sym (u .book-is)) flows-taken (listed? percent before b (one .flow))
 
     -- From a true table every record is so, whatever the two shortlists.
-    pub calls-same-true : TrueTable (lentCase before) (before .flow) (before .table) → TakeEnds b before one r → TakeEnds b before two s → r ≡ accepted
-        → SameTaken before b Each one two r s
+    pub calls-same-true : TrueTable (lentCase percent before) (before .flow) (before .table) → TakeEnds percent b before one r
+        → TakeEnds percent b before two s → r ≡ accepted
+        → SameTaken percent before b Each one two r s
     calls-same-true t x y a =
         let e = calls-same x y .answers in
         let d = take-done x a in
         let d′ = take-done y (sym e ∙ a) in
-        renewed-same (out (lentCase before) b) _ _ (FreeTaken before b) Each e a (d .took .book-is ∙ sym (d′ .took .book-is))
+        renewed-same (out (lentCase percent before) b) _ _ (FreeTaken percent before b) Each e a (d .took .book-is ∙ sym (d′ .took .book-is))
         (d .took .updated) (d′ .took .updated) (flows-taken (d .took) (d′ .took))
-        (renewed-true (out (lentCase before) b) _ _ (listed? before b (one .flow)) (listed? before b (two .flow)) (d .took .updated) (d′ .took .updated)
+        (renewed-true (out (lentCase percent before) b) _ _ (listed? percent before b (one .flow)) (listed? percent before b (two .flow))
+        (d .took .updated) (d′ .took .updated)
         (call-true (d .posed-case) (d .took) t) (call-true (d′ .posed-case) (d′ .took) t))
 
 -- ---- The number of losses judged: 0 for a refusal, and one number where the shortlists agree.
@@ -177,16 +184,17 @@ judges-same D t T U n m listed? agree x y =
     one k l (yes p) false i = x .if-not k l (λ _ j. true≢false (sym j ∙ i)) ∙ sym (y .if-not k l (λ _ j. true≢false (sym j ∙ i)))
     one k l (no n) s i = x .if-not k l (λ p _. n p) ∙ sym (y .if-not k l (λ p _. n (agree k l .1 p)))
 
-module _ {before one two : Lent} {b : ℕ} {r s : Taken} where
-  pub counted-same : TakeCounted b before one r → TakeCounted b before two s
-      → ((k : ℕ) → k < lentCase before .branches → AgreeTaken before b one two k) → r .judged ≡ s .judged
+module _ {percent : ℕ} {before one two : Lent} {b : ℕ} {r s : Taken} where
+  pub counted-same : TakeCounted percent b before one r → TakeCounted percent b before two s
+      → ((k : ℕ) → k < lentCase percent before .branches → AgreeTaken percent before b one two k) → r .judged ≡ s .judged
   unfolding member
-  counted-same x y agree = go (call-accepted? takeNumbers refl refl (take-gives _ _ _ _) (x .ends))
+  counted-same x y agree = go (call-accepted? takeNumbers refl refl (take-gives _ _ _ _ _) (x .ends))
     where
       same : r .answer ≡ s .answer
       same = calls-same (x .ends) (y .ends) .answers
 
       go : Dec (r .answer ≡ accepted) → r .judged ≡ s .judged
       go (yes a) =
-          judges-same _ (before .table) _ _ (r .judged) (s .judged) (listed? before b (one .flow)) agree (x .judges a) (y .judges (sym same ∙ a))
+          judges-same _ (before .table) _ _ (r .judged) (s .judged) (listed? percent before b (one .flow)) agree (x .judges a)
+          (y .judges (sym same ∙ a))
       go (no n) = x .none n ∙ sym (y .none (λ a. n (same ∙ a)))

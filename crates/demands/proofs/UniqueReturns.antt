@@ -13,7 +13,7 @@ use Rattle.verdict.specs.Case.{Case, back, on}
 use Rattle.verdict.specs.Record.{recordAt}
 use Rattle.verdict.specs.Update.{Lent}
 use Rattle.verdict.proofs.Fitting.{posed-status}
-use Rattle.state.proofs.Checked.{posed-book}
+use Rattle.state.proofs.Checked.{posed-passed}
 use Rattle.restore.specs.Promise.{Anew, backNumbers, BackEnds}
 use Rattle.restore.proofs.Checking.{returnable, back-gives}
 use Rattle.restore.proofs.ToBeWritten.{anew?}
@@ -52,25 +52,25 @@ one-list {C} {free} {L} {one} {two} x = record {
     }
 
 -- Two results of one return: the same but for free reroute bits, the same flow, and the same record of the branch itself.
-pub record SameReturn (before : Lent) (b : ℕ) (one two : Lent) (r s : Answer) : Type 0 where
-  pub same : SameResult (back (lentCase before) b) NoFlow (Anew (before .table) b) Each one two r s
+pub record SameReturn (percent : ℕ) (before : Lent) (b : ℕ) (one two : Lent) (r s : Answer) : Type 0 where
+  pub same : SameResult (back (lentCase percent before) b) NoFlow (Anew (before .table) b) Each one two r s
   pub same-flow : one .flow ≡ two .flow
   pub same-own : recordAt (one .table) b ≡ recordAt (two .table) b
 
 -- From any table.
-pub returns-same : {before one two : Lent} {b : ℕ} {r s : Answer} → BackEnds b before one r → BackEnds b before two s
-    → SameReturn before b one two r s
+pub returns-same : {percent : ℕ} {before one two : Lent} {b : ℕ} {r s : Answer} → BackEnds percent b before one r → BackEnds percent b before two s
+    → SameReturn percent before b one two r s
 unfolding member
-returns-same {before} {one} {two} {b} {r} {s} x y = record {
+returns-same {percent} {before} {one} {two} {b} {r} {s} x y = record {
   same = all;
   same-flow = ext-getD (pos 0) (one .flow) (two .flow) (all .beyond .flow-long) (λ j l. all .flows j (λ z. z));
-  same-own = own (call-accepted? backNumbers refl refl (back-gives _ _ _ _) x);
+  same-own = own (call-accepted? backNumbers refl refl (back-gives _ _ _ _ _) x);
 }
   where
-    all : SameResult (back (lentCase before) b) NoFlow (Anew (before .table) b) Each one two r s
+    all : SameResult (back (lentCase percent before) b) NoFlow (Anew (before .table) b) Each one two r s
     all = one-list
-        (ends-same (lentCase before) (back (lentCase before) b) NoFlow (Anew (before .table) b) (Anew (before .table) b)
-        (λ c. posed-status _ b _ (posed-book (before .book) (returnable _ _ _ b c .passes .book)))
+        (ends-same (lentCase percent before) (back (lentCase percent before) b) NoFlow (Anew (before .table) b) (Anew (before .table) b)
+        (λ c. posed-status _ b _ (posed-passed (returnable _ _ _ b c .passes)))
         (λ o. o .renewed) (λ o. o .renewed) (λ o u. o .book-is ∙ sym (u .book-is))
         (λ o u j l n. ap (λ (f : List ℤ). on f j) (o .flow-is ∙ sym (u .flow-is))) (anew? (before .table) b) x y)
 

@@ -1,6 +1,6 @@
 -- Where the book is wrong: each call passes on what the check of the fields says, and the place is that of the first broken rule.
 use mathlib.Core.Path.{_≡_, refl, sym, ap, subst, _∙_}
-use mathlib.Core.Bool.{_||_}
+use mathlib.Core.Bool.{false, _||_}
 use mathlib.Core.List.{List}
 use Prim.Native.Nat.{ℕ, _*_, _<_}
 use native.Mathlib.Omega.{arith}
@@ -13,6 +13,7 @@ use Rattle.answer.specs.declared.Outcome.the-variants.{Accepted}
 use Rattle.answer.specs.declared.Answer.{Answer}
 use Rattle.answer.specs.Answer.{numberOf, placeOf, SaidBy, andThen}
 use Rattle.answer.proofs.Refusals.{stands, if-nowhere, at-not-nowhere, placed-before}
+use Rattle.quantity.specs.Rating.{percentOut}
 use Rattle.layout.specs.declared.Form.{Form}
 use Rattle.layout.specs.Book.{branch}
 use Rattle.layout.specs.Form.{fields}
@@ -61,17 +62,20 @@ module _ (bs : List ℕ) where
       (if-nowhere (wouldLose f (ratingsDiffer (bookOf bs))) 18 _ (if-nowhere (ltb room (bytesFor f (busesIn bs) (branchesIn bs))) 8 Accepted refl))
       (begins-with bs)
 
-  lent-begins : (flows bytes : ℕ) → Begins bs (lentCheck bs flows bytes)
-  unfolding lentCheck
-  lent-begins flows bytes =
-      begins-then (checkOf bs) _ (if-nowhere (ltb flows (branchesIn bs) || ltb bytes (52 * branchesIn bs)) 8 Accepted refl) (begins-with bs)
+  -- The percentage is tested first, so it has to be in range.
+  module _ (percent : ℕ) (in-range : percentOut percent ≡ false) where
+    lent-begins : (flows bytes : ℕ) → Begins bs (lentCheck percent bs flows bytes)
+    unfolding lentCheck
+    lent-begins flows bytes =
+        rw in-range
+        (begins-then (checkOf bs) _ (if-nowhere (ltb flows (branchesIn bs) || ltb bytes (52 * branchesIn bs)) 8 Accepted refl) (begins-with bs))
 
-  branch-begins : (flows bytes b v n : ℕ) → Begins bs (branchCheck bs flows bytes b v n)
-  unfolding branchCheck
-  branch-begins flows bytes b v n =
-      begins-then (lentCheck bs flows bytes) _
-      (if-nowhere (leb (branchesIn bs) b) 9 _ (if-nowhere (eqb (branch (bookOf bs) b .status) v) n Accepted refl))
-      (lent-begins flows bytes)
+    branch-begins : (flows bytes b v n : ℕ) → Begins bs (branchCheck percent bs flows bytes b v n)
+    unfolding branchCheck
+    branch-begins flows bytes b v n =
+        begins-then (lentCheck percent bs flows bytes) _
+        (if-nowhere (leb (branchesIn bs) b) 9 _ (if-nowhere (eqb (branch (bookOf bs) b .status) v) n Accepted refl))
+        (lent-begins flows bytes)
 
 -- ---- What the calls that are lent a book answer.
 by-check : {bs : List ℕ} {check : Outcome} {r : Answer} → Begins bs check → SaidBy check r → Tells bs r
@@ -92,10 +96,12 @@ read-tells {bs} {inj} {bra = bra} d = by-check (read-begins bs (length inj) (len
 pub move-tells : {bs : List ℕ} {f : Form} {out out′ : List ℕ} {r : Answer} → BookMoved bs f out out′ r → Tells bs r
 move-tells {bs} {f} {out} d = by-check (move-begins bs f (length out)) (d .answer)
 
-pub screen-tells : {before after : Lent} {r : Answer} → ScreenEnds before after r → Tells (before .book) r
-screen-tells (refuses n a k) = by-check (lent-begins _ _ _) a
-screen-tells (overloads c o k) = past-check (lent-begins _ _ _) c (o .answer .place-is)
-screen-tells (accepts c a s) = past-check (lent-begins _ _ _) c (a .place-is)
+-- A percentage out of range is refused before the book is looked at (Percentage.antt).
+pub screen-tells : {percent : ℕ} {before after : Lent} {r : Answer} → percentOut percent ≡ false → ScreenEnds percent before after r
+    → Tells (before .book) r
+screen-tells i (refuses n a k) = by-check (lent-begins _ _ i _ _) a
+screen-tells i (overloads c o k) = past-check (lent-begins _ _ i _ _) c (o .answer .place-is)
+screen-tells i (accepts c a s) = past-check (lent-begins _ _ i _ _) c (a .place-is)
 
 ends-tells : {check : Outcome} {C D : Case} {done : Type 0} {before after : Lent} {r : Answer} → Begins (before .book) check
     → Ends check C D done before after r → Tells (before .book) r
@@ -104,12 +110,12 @@ ends-tells b (call.unfit c n a k) = past-check b c (a .place-is)
 ends-tells b (call.overloads c f o k) = past-check b c (o .answer .place-is)
 ends-tells b (call.accepts c f a o) = past-check b c (a .place-is)
 
-module _ {b : ℕ} {before after : Lent} {r : Answer} where
-  pub take-tells : TakeEnds b before after r → Tells (before .book) r
-  take-tells e = ends-tells (branch-begins _ _ _ _ _ _) e
+module _ {percent b : ℕ} {before after : Lent} {r : Answer} where
+  pub take-tells : percentOut percent ≡ false → TakeEnds percent b before after r → Tells (before .book) r
+  take-tells i e = ends-tells (branch-begins _ _ i _ _ _ _ _) e
 
-  pub back-tells : BackEnds b before after r → Tells (before .book) r
-  back-tells e = ends-tells (branch-begins _ _ _ _ _ _) e
+  pub back-tells : percentOut percent ≡ false → BackEnds percent b before after r → Tells (before .book) r
+  back-tells i e = ends-tells (branch-begins _ _ i _ _ _ _ _) e
 
 -- ---- What the writer answers to tables that are wrong.
 pub write-tells : {f : Form} {n m factor : ℕ} {inj : List ℤ} {bra out out′ : List ℕ} {r : Answer} → BookWritten f n m factor inj bra out out′ r

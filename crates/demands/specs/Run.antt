@@ -1,4 +1,4 @@
--- A run: a book is screened, and then outages and returns are accepted in any order, each lent what the one before left.
+-- A run under one percentage: a book is screened, and then outages and returns are accepted in any order, each lent what the one before left.
 use mathlib.Core.Path.{_≡_}
 use Prim.Native.Nat.{ℕ}
 use Rattle.answer.specs.Answer.{accepted}
@@ -8,8 +8,8 @@ use Rattle.screen.specs.Promise.{ScreenEnds}
 use Rattle.outage.specs.Promise.{TakeEnds}
 use Rattle.restore.specs.Promise.{BackEnds}
 
--- What then stands. A later call joins as a further constructor.
-pub data Run : Lent → Type 0 where
-  screened : {before after : Lent} {r : Answer} → ScreenEnds before after r → r ≡ accepted → Run after
-  taken : {before after : Lent} {r : Answer} (b : ℕ) → Run before → TakeEnds b before after r → r ≡ accepted → Run after
-  returned : {before after : Lent} {r : Answer} (b : ℕ) → Run before → BackEnds b before after r → r ≡ accepted → Run after
+-- What then stands. No step changes the percentage: a change of it calls for a new screen. A later call joins as a further constructor.
+pub data Run (percent : ℕ) : Lent → Type 0 where
+  screened : {before after : Lent} {r : Answer} → ScreenEnds percent before after r → r ≡ accepted → Run percent after
+  taken : {before after : Lent} {r : Answer} (b : ℕ) → Run percent before → TakeEnds percent b before after r → r ≡ accepted → Run percent after
+  returned : {before after : Lent} {r : Answer} (b : ℕ) → Run percent before → BackEnds percent b before after r → r ≡ accepted → Run percent after

@@ -19,11 +19,11 @@ pub record FreeFlow (C : Case) (j : ℕ) : Type 0 where
   pub in-service : C .served j ≡ true
 
 -- After an outage of b: none if b's flow was 0; where some fitting flow is confined to the branches that b's record names, only these.
-pub record FreeTaken (before : Lent) (b j : ℕ) : Type 0 where
-  pub left : FreeFlow (out (caseIn (before .book)) b) j
+pub record FreeTaken (percent : ℕ) (before : Lent) (b j : ℕ) : Type 0 where
+  pub left : FreeFlow (out (caseIn percent (before .book)) b) j
   pub flowing : on (before .flow) b ≡ pos 0 → ⊥
-  pub named : (h : ℕ → ℤ) → Fits (out (caseIn (before .book)) b) (caseIn (before .book) .limit) h
-      → Confined (caseIn (before .book)) (on (before .flow)) (recordAt (before .table) b) b h → names (recordAt (before .table) b) j ≡ true
+  pub named : (h : ℕ → ℤ) → Fits (out (caseIn percent (before .book)) b) (caseIn percent (before .book) .limit) h
+      → Confined (caseIn percent (before .book)) (on (before .flow)) (recordAt (before .table) b) b h → names (recordAt (before .table) b) j ≡ true
 
 -- ---- Bit j of branch k's reroute is free: one of the two results wrote the record anew, it carries, in one of them k has a flow, and j is
 -- another branch in service.

@@ -10,16 +10,15 @@ use lib.Seq.{getD-take}
 use Rattle.rows.specs.Row.{nth, every}
 use Rattle.answer.specs.Answer.{numberOf, shortageOf}
 use Rattle.rows.specs.Sum.{over, sum}
-use Rattle.answer.specs.declared.Outcome.the-variants.{Accepted}
 use Rattle.answer.specs.declared.Answer.{Answer}
 use Rattle.grid.proofs.Tests.{_&_}
 use Rattle.quantity.specs.Signed.{posPart}
+use Rattle.quantity.proofs.Limits.{full-in-range}
 use Rattle.layout.specs.declared.Form.the-variants.{Old}
 use Rattle.layout.specs.Book.{Book}
 use Rattle.layout.specs.Fault.{branchFault}
 use Rattle.layout.specs.Layout.{encode}
-use Rattle.layout.proofs.AcceptedWhere.{valid-accepted}
-use Rattle.layout.proofs.DecodeEncode.{count-encode, valid-encode, book-encode}
+use Rattle.layout.proofs.DecodeEncode.{count-encode, book-encode}
 use Rattle.verdict.specs.Case as verdict
 use Rattle.verdict.specs.Case.{on, Fits}
 use Rattle.verdict.specs.Record.{recordAt, verdictIn, names}
@@ -28,8 +27,7 @@ use Rattle.record.specs.Inside.{recordBytes}
 use Rattle.state.specs.Case.{caseOf}
 use Rattle.state.specs.Call.{lent, refuses, unfit, overloads, accepts}
 use Rattle.screen.specs.Promise.{ScreenEnds}
-use Rattle.outage.specs.Promise.{Confined, takeCheck, TakeEnds}
-use Rattle.outage.proofs.Checking.{taking}
+use Rattle.outage.specs.Promise.{Confined, TakeEnds}
 use Rattle.demands.specs.Run.{Run}
 use Rattle.state.proofs.Status.{branches-of}
 use Rattle.demands.proofs.Excluded.{eleven-first}
@@ -38,58 +36,65 @@ use Rattle.demands.proofs.Demand3.{run-true, run-posed}
 use Rattle.examples.specs.Row.{out, carries, short, sightBytes, Shows, Refuses, Takes}
 use Rattle.examples.specs.Table.{minus, joins, triangle, second, pair, feeder, way, markedRows}
 use Rattle.examples.proofs.Tests.{wellTest, well-sound, fitsTest, fits-sound}
+use Rattle.examples.proofs.OnBook.{of-book, takes-checked}
 use Rattle.examples.proofs.Marked.{row-in, marked-examples}
 
 abbrev T : Book
 T = triangle Old 1000 30 1 1
 
 -- Byte 0 from the first twenty.
-first-byte : (rec bytes : List ℕ) → take 20 rec ≡ bytes → verdictIn rec ≡ nth bytes 0
+pub first-byte : (rec bytes : List ℕ) → take 20 rec ≡ bytes → verdictIn rec ≡ nth bytes 0
 first-byte rec bytes e = sym (getD-take 20 rec 0 0 (omega arith)) ∙ ap (λ (x : List ℕ). nth x 0) e
 
 -- ---- Screens.
 module _ {flow : List ℤ} {table : List ℕ} {after : Lent} {r : Answer} where
   -- One that refuses every book with 12.
-  pub all-refused : 3 ≤ length flow → 156 ≤ length table → ScreenEnds (lent (encode T) flow table) after r → numberOf (r .outcome) ≡ 12 → ⊥
+  pub all-refused : 3 ≤ length flow → 156 ≤ length table → ScreenEnds 100 (lent (encode T) flow table) after r → numberOf (r .outcome) ≡ 12 → ⊥
   all-refused l m e n =
-      let s : Shows T (carries ∷ carries ∷ carries ∷ []) (lent (encode T) flow table) after r = marked-examples Old _ (row-in (markedRows Old) 0 (omega arith)) flow table after r l m e in
+      let s : Shows 100 T (carries ∷ carries ∷ carries ∷ []) (lent (encode T) flow table) after r =
+      marked-examples Old _ (row-in (markedRows Old) 0 (omega arith)) flow table after r l m e in
       omega (arith, s .answer .number-is)
 
   -- One that calls every branch carrying.
-  pub all-carrying : 4 ≤ length flow → 208 ≤ length table → ScreenEnds (lent (encode (second Old 25)) flow table) after r → verdictIn (recordAt (after .table) 0) ≡ 1 → ⊥
+  pub all-carrying : 4 ≤ length flow → 208 ≤ length table → ScreenEnds 100 (lent (encode (second Old 25)) flow table) after r
+      → verdictIn (recordAt (after .table) 0) ≡ 1 → ⊥
   unfolding sightBytes recordBytes
   all-carrying l m e v =
-      let s : Shows (second Old 25) (short 20 (0 ∷ []) ∷ short 35 (0 ∷ 1 ∷ []) ∷ short 20 (0 ∷ 1 ∷ []) ∷ short 20 (0 ∷ 1 ∷ 2 ∷ []) ∷ []) (lent (encode (second Old 25)) flow table) after r =
+      let s : Shows 100 (second Old 25) (short 20 (0 ∷ []) ∷ short 35 (0 ∷ 1 ∷ []) ∷ short 20 (0 ∷ 1 ∷ []) ∷ short 20 (0 ∷ 1 ∷ 2 ∷ []) ∷ [])
+      (lent (encode (second Old 25)) flow table) after r =
       marked-examples Old _ (row-in (markedRows Old) 7 (omega arith)) flow table after r l m e in
       omega (arith, first-byte (recordAt (after .table) 0) _ (s .records 0 (omega arith)))
 
 -- ---- Limits taken for one another.
 module _ {flow : List ℤ} {table : List ℕ} {after : Lent} {r : Answer} where
   -- A screen that judges a loss by the normal limits.
-  pub shown-by-normal : 2 ≤ length flow → 104 ≤ length table → ScreenEnds (lent (encode pair) flow table) after r
+  pub shown-by-normal : 2 ≤ length flow → 104 ≤ length table → ScreenEnds 100 (lent (encode pair) flow table) after r
       → verdictIn (recordAt (after .table) 0) ≡ 2 → ⊥
   unfolding sightBytes recordBytes
   shown-by-normal l m e v =
-      let s : Shows pair (carries ∷ carries ∷ []) (lent (encode pair) flow table) after r =
+      let s : Shows 100 pair (carries ∷ carries ∷ []) (lent (encode pair) flow table) after r =
       marked-examples Old _ (row-in (markedRows Old) 14 (omega arith)) flow table after r l m e in
       omega (arith, first-byte (recordAt (after .table) 0) _ (s .records 0 (omega arith)))
 
   -- One whose base flow keeps to the second limits.
-  pub fitted-by-second : 1 ≤ length flow → 52 ≤ length table → ScreenEnds (lent (encode feeder) flow table) after r → numberOf (r .outcome) ≡ 0 → ⊥
+  pub fitted-by-second : 1 ≤ length flow → 52 ≤ length table → ScreenEnds 100 (lent (encode feeder) flow table) after r → numberOf (r .outcome) ≡ 0
+      → ⊥
   fitted-by-second l m e n =
       let k : Refuses 10 (0 ∷ []) (lent (encode feeder) flow table) after r =
       marked-examples Old _ (row-in (markedRows Old) 18 (omega arith)) flow table after r l m e in
       omega (arith, k .answer .number-is)
 
   -- A call that takes a branch out for good by the second limits.
-  pub taken-by-second : Run (lent (encode pair) flow table) → TakeEnds 0 (lent (encode pair) flow table) after r → numberOf (r .outcome) ≡ 0 → ⊥
+  pub taken-by-second : Run 100 (lent (encode pair) flow table) → TakeEnds 100 0 (lent (encode pair) flow table) after r → numberOf (r .outcome) ≡ 0
+      → ⊥
   taken-by-second run e n =
       let k : Refuses 10 (0 ∷ []) (lent (encode pair) flow table) after r =
       marked-examples Old _ (row-in (markedRows Old) 15 (omega arith)) flow table after r run e in
       omega (arith, k .answer .number-is)
 
   -- One that refuses with the shortage that the record shows.
-  pub twelve-as-shown : Run (lent (encode way) flow table) → TakeEnds 0 (lent (encode way) flow table) after r → shortageOf (r .outcome) ≡ 10 → ⊥
+  pub twelve-as-shown : Run 100 (lent (encode way) flow table) → TakeEnds 100 0 (lent (encode way) flow table) after r
+      → shortageOf (r .outcome) ≡ 10 → ⊥
   twelve-as-shown run e n =
       let k : Refuses 20 (0 ∷ []) (lent (encode way) flow table) after r =
       marked-examples Old _ (row-in (markedRows Old) 17 (omega arith)) flow table after r run e in
@@ -100,13 +105,13 @@ well-T : wellTest T ≡ true
 unfolding wellTest _&_ every over branchFault
 well-T = refl
 
-served-T : caseOf T .served 0 ≡ true
+served-T : caseOf 100 T .served 0 ≡ true
 unfolding caseOf
 served-T = refl
 
 module _ {flow : List ℤ} {table : List ℕ} {after : Lent} {r : Answer} where
   -- One that clears the bit, or does nothing at all, and leaves the table.
-  pub table-left : Run (lent (encode T) flow table) → TakeEnds 0 (lent (encode T) flow table) after r → after .table ≡ table → ⊥
+  pub table-left : Run 100 (lent (encode T) flow table) → TakeEnds 100 0 (lent (encode T) flow table) after r → after .table ≡ table → ⊥
   unfolding sightBytes recordBytes
   table-left run e same =
       let w = well-sound T well-T in
@@ -114,8 +119,9 @@ module _ {flow : List ℤ} {table : List ℕ} {after : Lent} {r : Answer} where
       marked-examples Old _ (row-in (markedRows Old) 2 (omega arith)) flow table after r run e in
       let anew : verdictIn (recordAt (after .table) 0) ≡ 0 = first-byte (recordAt (after .table) 0) _ (t .records 0 (omega arith)) in
       let zero-byte : verdictIn (recordAt table 0) ≡ 0 = ap (λ (x : List ℕ). verdictIn (recordAt x 0)) (sym same) ∙ anew in
-      let off = out-exactly _ (run-posed run) (on flow) 0 (recordAt table 0) (run-true run .each 0 (omega (arith, branches-of (encode T), count-encode T w))) .0 zero-byte in
-      true≢false (sym served-T ∙ subst (λ (x : Book). caseOf x .served 0 ≡ false) (book-encode T w) off)
+      let off = out-exactly _ (run-posed run) (on flow) 0 (recordAt table 0)
+      (run-true run .each 0 (omega (arith, branches-of 100 (encode T), count-encode T w))) .0 zero-byte in
+      true≢false (sym served-T ∙ subst (λ (x : Book). caseOf 100 x .served 0 ≡ false) (book-encode T w) off)
 
 -- ---- Calls on one flow, whatever was done before.
 -- The triangle with branch 0 out, and a lent flow that is 0 everywhere: it doesn't fit, and without branch 1 the book is short 30.
@@ -129,29 +135,21 @@ well-Open : wellTest Open ≡ true
 unfolding wellTest _&_ every over branchFault
 well-Open = refl
 
-served-Open : caseOf Open .served 1 ≡ true
+served-Open : caseOf 100 Open .served 1 ≡ true
 unfolding caseOf
 served-Open = refl
 
-still-unfit : Fits (caseOf Open) (caseOf Open .limit) (on still) → ⊥
+still-unfit : Fits (caseOf 100 Open) (caseOf 100 Open .limit) (on still) → ⊥
 unfolding caseOf sum
 still-unfit f = let e : pos 0 ≡ pos 30 = f .bus 0 (omega arith) in omega (arith, ap posPart e)
 
 module _ {table : List ℕ} {after : Lent} {r : Answer} where
   -- One that tests 12 before 11.
-  pub twelve-first : 156 ≤ length table → TakeEnds 1 (lent (encode Open) still table) after r → numberOf (r .outcome) ≡ 12 → ⊥
+  pub twelve-first : 156 ≤ length table → TakeEnds 100 1 (lent (encode Open) still table) after r → numberOf (r .outcome) ≡ 12 → ⊥
   twelve-first l e n =
       let w = well-sound Open well-Open in
-      let checked : takeCheck (encode Open) 3 (length table) 1 ≡ Accepted = taking (encode Open) 3 (length table) 1 (record {
-        passes = record {
-          book = valid-accepted (encode Open) (valid-encode Open w);
-          flow-room = omega (arith, count-encode Open w);
-          table-room = omega (arith, count-encode Open w);
-        };
-        there = omega (arith, count-encode Open w);
-        in-service = subst (λ (x : Book). caseOf x .served 1 ≡ true) (sym (book-encode Open w)) served-Open;
-      }) in
-      let eleven = eleven-first e checked (λ f. still-unfit (subst (λ (x : Book). Fits (caseOf x) (caseOf x .limit) (on still)) (book-encode Open w) f)) in
+      let checked = takes-checked 100 Open w full-in-range 1 (omega arith) served-Open 3 (length table) (omega arith) l in
+      let eleven = eleven-first e checked (λ f. still-unfit (of-book 100 Open w (λ C. Fits C (C .limit) (on still)) f)) in
       omega (arith, n, eleven .number-is)
 
 -- Three branches side by side carry 10 over the first; its record names the second alone.
@@ -172,7 +170,7 @@ by-second = pos 0 ∷ pos 10 ∷ pos 0 ∷ []
 abbrev by-third : List ℤ
 by-third = pos 0 ∷ pos 0 ∷ pos 10 ∷ []
 
-three-Abreast : 2 < caseOf Abreast .branches
+three-Abreast : 2 < caseOf 100 Abreast .branches
 unfolding caseOf
 three-Abreast = omega arith
 
@@ -180,11 +178,11 @@ well-Abreast : wellTest Abreast ≡ true
 unfolding wellTest _&_ every over branchFault
 well-Abreast = refl
 
-second-fits : Fits (verdict.out (caseOf Abreast) 0) (caseOf Abreast .limit) (on by-second)
+second-fits : Fits (verdict.out (caseOf 100 Abreast) 0) (caseOf 100 Abreast .limit) (on by-second)
 unfolding caseOf sum fitsTest every _&_
 second-fits = fits-sound _ _ _ refl
 
-second-confined : (rec : List ℕ) → names rec 1 ≡ true → Confined (caseOf Abreast) (on by-first) rec 0 (on by-second)
+second-confined : (rec : List ℕ) → names rec 1 ≡ true → Confined (caseOf 100 Abreast) (on by-first) rec 0 (on by-second)
 unfolding caseOf
 second-confined rec y zero u n q = absurd (n refl)
 second-confined rec y (suc zero) u n q = absurd (true≢false (sym y ∙ q))
@@ -196,18 +194,20 @@ third-differs e = omega (arith, ap posPart e)
 
 module _ {table : List ℕ} {after : Lent} {r : Answer} where
   -- One that drops the flow and screens afresh: 10 then goes over the third branch, which the record doesn't name.
-  pub flow-elsewhere : names (recordAt table 0) 1 ≡ true → names (recordAt table 0) 2 ≡ false → after .flow ≡ by-third → TakeEnds 0 (lent (encode Abreast) by-first table) after r → ⊥
+  pub flow-elsewhere : names (recordAt table 0) 1 ≡ true → names (recordAt table 0) 2 ≡ false → after .flow ≡ by-third
+      → TakeEnds 100 0 (lent (encode Abreast) by-first table) after r → ⊥
   flow-elsewhere y n third e = third-differs (go e)
     where
       kept : after ≡ lent (encode Abreast) by-first table → on by-third 2 ≡ on by-first 2
       kept k = ap (λ (x : List ℤ). on x 2) (sym third ∙ ap (λ (l : Lent). l .flow) k)
 
-      go : TakeEnds 0 (lent (encode Abreast) by-first table) after r → on by-third 2 ≡ on by-first 2
+      go : TakeEnds 100 0 (lent (encode Abreast) by-first table) after r → on by-third 2 ≡ on by-first 2
       go (refuses m a k) = kept k
       go (unfit c m a k) = kept k
       go (overloads c f o k) = kept k
       go (accepts c f a o) =
           let w = well-sound Abreast well-Abreast in
-          let keeps = subst (λ (x : Book). (h : ℕ → ℤ) → Fits (verdict.out (caseOf x) 0) (caseOf x .limit) h → Confined (caseOf x) (on by-first) (recordAt table 0) 0 h
-          → Confined (caseOf x) (on by-first) (recordAt table 0) 0 (on (after .flow))) (book-encode Abreast w) (o .confined) in
+          let keeps = subst (λ (x : Book). (h : ℕ → ℤ) → Fits (verdict.out (caseOf 100 x) 0) (caseOf 100 x .limit) h → Confined (caseOf 100 x)
+          (on by-first) (recordAt table 0) 0 h
+          → Confined (caseOf 100 x) (on by-first) (recordAt table 0) 0 (on (after .flow))) (book-encode Abreast w) (o .confined) in
           ap (λ (x : List ℤ). on x 2) (sym third) ∙ keeps (on by-second) second-fits (second-confined (recordAt table 0) y) 2 three-Abreast (λ e. omega (arith, e)) n

@@ -1,4 +1,6 @@
 pub mod Tests
+pub mod OnBook
 pub mod Marked
 pub mod Excluded
 pub mod Elsewhere
+pub mod NewScreen

@@ -49,12 +49,12 @@ pub data Row : Type 0 where
   keeps : Book → ℕ → ℕ → List ℕ → Row
   meters : Registers → List ℤ → ℕ → List ℤ → Row
 
--- What a screen of the book b then leaves.
-pub record Shows (b : Book) (sights : List Sight) (before after : Lent) (r : Answer) : Type 0 where
+-- What a screen of the book b then leaves, at the percentage of the table.
+pub record Shows (percent : ℕ) (b : Book) (sights : List Sight) (before after : Lent) (r : Answer) : Type 0 where
   pub answer : SaidBy Accepted r
   pub one-each : length sights ≡ count b
   pub records : (k : ℕ) → k < count b → take 20 (recordAt (after .table) k) ≡ sightBytes (getD sights k out)
-  pub beyond : Beyond (caseOf b) before after
+  pub beyond : Beyond (caseOf percent b) before after
 
 pub record Refuses (v : ℕ) (group : List ℕ) (before after : Lent) (r : Answer) : Type 0 where
   pub answer : Said r 12 v (groupBytes group) Nowhere
@@ -72,20 +72,20 @@ pub record Leaves (number : ℕ) (output left : List ℤ) (r : Answer) : Type 0 
   pub output-is : left ≡ output
 
 -- Any result that the promise allows on the encoded book, lent enough space, is as the row says.
-abbrev pub Screens : Book → (Lent → Lent → Answer → Type 0) → Type 0
-Screens b says =
+abbrev pub Screens : ℕ → Book → (Lent → Lent → Answer → Type 0) → Type 0
+Screens percent b says =
     (flow : List ℤ) (table : List ℕ) (after : Lent) (r : Answer) → count b ≤ length flow → 52 * count b ≤ length table
-    → ScreenEnds (lent (encode b) flow table) after r → says (lent (encode b) flow table) after r
+    → ScreenEnds percent (lent (encode b) flow table) after r → says (lent (encode b) flow table) after r
 
 -- The same of a call on what a run left of that book.
-abbrev pub Calls : Book → ℕ → (Lent → Lent → Answer → Type 0) → Type 0
-Calls B b says =
-    (flow : List ℤ) (table : List ℕ) (after : Lent) (r : Answer) → Run (lent (encode B) flow table)
-    → TakeEnds b (lent (encode B) flow table) after r → says (lent (encode B) flow table) after r
+abbrev pub Calls : ℕ → Book → ℕ → (Lent → Lent → Answer → Type 0) → Type 0
+Calls percent B b says =
+    (flow : List ℤ) (table : List ℕ) (after : Lent) (r : Answer) → Run percent (lent (encode B) flow table)
+    → TakeEnds percent b (lent (encode B) flow table) after r → says (lent (encode B) flow table) after r
 
-abbrev pub Holds : Row → Type 0
-Holds (shows b sights) = Screens b (Shows b sights)
-Holds (refuses b v group) = Screens b (Refuses v group)
-Holds (takes b k d sights) = Calls b k (Takes b d sights)
-Holds (keeps b k v group) = Calls b k (Refuses v group)
-Holds (meters R space number output) = (left : List ℤ) (r : Answer) → Metered R space left r → Leaves number output left r
+abbrev pub Holds : ℕ → Row → Type 0
+Holds percent (shows b sights) = Screens percent b (Shows percent b sights)
+Holds percent (refuses b v group) = Screens percent b (Refuses v group)
+Holds percent (takes b k d sights) = Calls percent b k (Takes b d sights)
+Holds percent (keeps b k v group) = Calls percent b k (Refuses v group)
+Holds percent (meters R space number output) = (left : List ℤ) (r : Answer) → Metered R space left r → Leaves number output left r

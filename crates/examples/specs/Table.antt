@@ -1,10 +1,11 @@
--- Document 01's marked examples (a) to (l), and two of our own, in either form; and books of two figures a branch, which the new form alone holds.
+-- Document 01's marked examples (a) to (l), and two of our own, in either form; books of two figures a branch, which the new form alone holds; and
+-- books in summer.
 use mathlib.Core.List.{List, [], _∷_}
 use Prim.Native.Nat.{ℕ}
 use lib.IntN.{ℤ, pos, negℤ}
 use Rattle.quantity.specs.Rating.{inKva}
 use Rattle.layout.specs.declared.Form.{Form}
-use Rattle.layout.specs.declared.Form.the-variants.{New}
+use Rattle.layout.specs.declared.Form.the-variants.{Old, New}
 use Rattle.layout.specs.declared.Branch.{Branch}
 use Rattle.layout.specs.Book.{Book}
 use Rattle.meters.specs.Registers.{registers}
@@ -102,4 +103,19 @@ markedRows f =
     ∷ keeps way 0 20 (0 ∷ [])
     -- a book whose load fits by the second figures alone
     ∷ refuses feeder 10 (0 ∷ [])
+    ∷ []
+
+-- Two branches side by side of 1,003 kVA at power factor 950: at 80 each may carry 762 kW, and 761 if the kW were rounded down before the percentage.
+abbrev pub twin : ℕ → Book
+twin kw = record { form = Old; factor = 950; injections = pos kw ∷ minus kw ∷ []; branches = joins 0 1 1003 1 ∷ joins 0 1 1003 1 ∷ [] }
+
+-- What is shown at 80.
+abbrev pub summerRows : List Row
+summerRows =
+    shows (twin 762) (carries ∷ carries ∷ [])
+    ∷ shows (twin 763) (short 1 (0 ∷ []) ∷ short 1 (0 ∷ []) ∷ [])
+    -- both figures follow: 24 go over the other branch for a short time, and 16 for good
+    ∷ shows pair (short 6 (0 ∷ []) ∷ short 6 (0 ∷ []) ∷ [])
+    ∷ keeps pair 0 14 (0 ∷ [])
+    ∷ refuses feeder 14 (0 ∷ [])
     ∷ []

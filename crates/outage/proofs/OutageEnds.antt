@@ -45,31 +45,34 @@ use Rattle.outage.proofs.Checking.{Takeable, takeable, take-gives}
 use Rattle.outage.proofs.FlowLeft as leaving
 use Rattle.outage.proofs.Shortlisting.{updated, judges}
 
-module _ (bs : List ℕ) (flow : List ℤ) (table : List ℕ) (b : ℕ) where
+module _ (percent : ℕ) (bs : List ℕ) (flow : List ℤ) (table : List ℕ) (b : ℕ) where
   abbrev checks : Outcome
-  checks = takeCheck bs (length flow) (length table) b
+  checks = takeCheck percent bs (length flow) (length table) b
 
   abbrev C : Case
-  C = caseIn bs
+  C = caseIn percent bs
 
   -- Refused by its checks.
-  pub ends-refused : {r : Taken} (o : Outcome) → o ≡ checks → (o ≡ Accepted → ⊥) → (r .answer ≡ bare o) × (r .judged ≡ 0) → TakeCounted b (lent bs flow table) (lent bs flow table) r
+  pub ends-refused : {r : Taken} (o : Outcome) → o ≡ checks → (o ≡ Accepted → ⊥) → (r .answer ≡ bare o) × (r .judged ≡ 0)
+      → TakeCounted percent b (lent bs flow table) (lent bs flow table) r
   unfolding member
   ends-refused o e n a = record {
-    ends = refuses (λ q. n (e ∙ q)) (gives-said takeNumbers checks refl refl (take-gives bs (length flow) (length table) b) (a .0 ∙ ap bare e)) refl;
+    ends = refuses (λ q. n (e ∙ q))
+        (gives-said takeNumbers checks refl refl (take-gives percent bs (length flow) (length table) b) (a .0 ∙ ap bare e)) refl;
     judges = λ q. absurd (n (ap (λ (x : Answer). x .outcome) (sym (a .0) ∙ q)));
     none = λ _. a .1;
   }
 
   module _ (ok : checks ≡ Accepted) where
-    pub may : Takeable bs (length flow) (length table) b
+    pub may : Takeable percent bs (length flow) (length table) b
     may = takeable bs (length flow) (length table) b ok
 
-    module _ (q : Survey) (p : Surveyed bs flow q) where
+    module _ (q : Survey) (p : Surveyed percent bs flow q) where
       there : b < C .branches
       there = branch-there p (may .there)
 
-      pub ends-unfit : {t : Taken} → q .fits ≡ false → t .answer ≡ refused 11 → t .judged ≡ 0 → TakeCounted b (lent bs flow table) (lent bs flow table) t
+      pub ends-unfit : {t : Taken} → q .fits ≡ false → t .answer ≡ refused 11 → t .judged ≡ 0
+          → TakeCounted percent b (lent bs flow table) (lent bs flow table) t
       ends-unfit e a z = record {
         ends = unfit ok (p .unfit e) (rw a (said-refused 11 (λ z. omega arith) (λ z. omega arith))) refl;
         judges = λ q. absurd (refusal-stands 11 (ap (λ (x : Answer). x .outcome) (sym a ∙ q)));
@@ -87,7 +90,8 @@ module _ (bs : List ℕ) (flow : List ℤ) (table : List ℕ) (b : ℕ) where
         losable-here = losable (normal C) (on flow) (q .wires) (q .served) (q .live) (q .latent) state b (sizes p (may .there) .2)
 
         module _ (named : List ℕ) (y : Judgement) (z : Replaced (q .wires) (q .live) (q .latent) named b y) where
-          pub ends-short : {t : Taken} (v : ℕ) → y .verdict ≡ Short v → length (y .group) ≡ 16 → (t .answer ≡ overloaded v (y .group)) × (t .judged ≡ 0) → TakeCounted b (lent bs flow table) (lent bs flow table) t
+          pub ends-short : {t : Taken} (v : ℕ) → y .verdict ≡ Short v → length (y .group) ≡ 16
+              → (t .answer ≡ overloaded v (y .group)) × (t .judged ≡ 0) → TakeCounted percent b (lent bs flow table) (lent bs flow table) t
           ends-short v w l a = record {
             ends = overloads ok lent-fits
                 (rw (a .0)
@@ -168,9 +172,9 @@ module _ (bs : List ℕ) (flow : List ℤ) (table : List ℕ) (b : ℕ) where
                     → named ≡ take 32 (drop 20 (recordAt table b))
                     → Listing (q .wires .branches) (listedAt served touched table) bits → bs′ ≡ setBit bs (statusBit bs b) 0
                     → ((D : Case) (f : ℕ → ℤ) → State D f (q .wires) served brief left → Rewritten D f served bits table table′ losses)
-                    → TakeCounted b (lent bs flow table) (lent bs′ flow′ table′) t
+                    → TakeCounted percent b (lent bs flow table) (lent bs′ flow′ table′) t
                 ends-taken {bs′} {table′} {bits} {losses} {t} {left} up a losses-are named-is list book-is fresh =
-                    let c = restates bs b 0 (may .passes .book) (may .there) (omega arith) in
+                    let c = restates percent bs b 0 (may .passes .book) (may .there) (omega arith) in
                     let n : q .wires .branches ≤ length flow = omega (arith, may .passes .flow-room, p .branches-are) in
                     let f : ℕ → ℤ = λ j. pos (nth (set (q .live) b 0) j) -ℤ pos (nth (y .latent .ahead) j) in
                     let redone = fresh (out C b) (on flow′) (state-raised up) in

@@ -30,31 +30,31 @@ pub data Touched (f g : ℕ → ℤ) (b j : ℕ) : Type 0 where
 abbrev pub Confined : Case → (ℕ → ℤ) → List ℕ → ℕ → (ℕ → ℤ) → Type 0
 Confined C f rec b g = (j : ℕ) → j < C .branches → (j ≡ b → ⊥) → names rec j ≡ false → g j ≡ f j
 
--- Refusals 1 to 8, then 9, then 10: already out.
-abbrev pub takeCheck : List ℕ → ℕ → ℕ → ℕ → Outcome
-takeCheck bs flows bytes b = branchCheck bs flows bytes b 0 10
+-- Refusals 21 and 1 to 8, then 9, then 10: already out.
+abbrev pub takeCheck : ℕ → List ℕ → ℕ → ℕ → ℕ → Outcome
+takeCheck percent bs flows bytes b = branchCheck percent bs flows bytes b 0 10
 
 abbrev pub takeNumbers : List ℕ
 takeNumbers = 10 ∷ branchNumbers
 
 -- An accepted call: the one status bit, the flow and the shortlist.
-pub record TakenOut (b : ℕ) (before after : Lent) : Type 0 where
+pub record TakenOut (percent b : ℕ) (before after : Lent) : Type 0 where
   pub book-is : after .book ≡ setBit (before .book) (statusBit (before .book) b) 0
   pub book-accepted : checkOf (after .book) ≡ Accepted
-  pub case-is : caseIn (after .book) ≡ out (caseIn (before .book)) b
-  pub updated : Updated (out (caseIn (before .book)) b) (Touched (on (before .flow)) (on (after .flow)) b) before after
+  pub case-is : caseIn percent (after .book) ≡ out (caseIn percent (before .book)) b
+  pub updated : Updated (out (caseIn percent (before .book)) b) (Touched (on (before .flow)) (on (after .flow)) b) before after
   -- if the branch's flow was 0, no flow changes
-  pub idle : on (before .flow) b ≡ pos 0 → (j : ℕ) → j < caseIn (before .book) .branches → on (after .flow) j ≡ on (before .flow) j
+  pub idle : on (before .flow) b ≡ pos 0 → (j : ℕ) → j < caseIn percent (before .book) .branches → on (after .flow) j ≡ on (before .flow) j
   -- flow keeps to the recorded reroute where that fits the normal limits: if some such flow is confined to it, the flow left is one of those
-  pub confined : (h : ℕ → ℤ) → Fits (out (caseIn (before .book)) b) (caseIn (before .book) .limit) h
-      → Confined (caseIn (before .book)) (on (before .flow)) (recordAt (before .table) b) b h
-      → Confined (caseIn (before .book)) (on (before .flow)) (recordAt (before .table) b) b (on (after .flow))
+  pub confined : (h : ℕ → ℤ) → Fits (out (caseIn percent (before .book)) b) (caseIn percent (before .book) .limit) h
+      → Confined (caseIn percent (before .book)) (on (before .flow)) (recordAt (before .table) b) b h
+      → Confined (caseIn percent (before .book)) (on (before .flow)) (recordAt (before .table) b) b (on (after .flow))
 
 -- How the call ends: refused by its checks, with 11, with 12 by the base excess of the book without b, or accepted.
-abbrev pub TakeEnds : ℕ → Lent → Lent → Answer → Type 0
-TakeEnds b before after r =
-    Ends (takeCheck (before .book) (length (before .flow)) (length (before .table)) b)
-    (caseIn (before .book)) (out (caseIn (before .book)) b) (TakenOut b before after) before after r
+abbrev pub TakeEnds : ℕ → ℕ → Lent → Lent → Answer → Type 0
+TakeEnds percent b before after r =
+    Ends (takeCheck percent (before .book) (length (before .flow)) (length (before .table)) b)
+    (caseIn percent (before .book)) (out (caseIn percent (before .book)) b) (TakenOut percent b before after) before after r
 
 -- ---- The same call, with the losses that were judged on the way: as many as there are records on the shortlist and in service, and none for a refusal.
 pub record Judges (C : Case) (touched : ℕ → Type 0) (table : List ℕ) (n : ℕ) : Type 0 where
@@ -63,7 +63,8 @@ pub record Judges (C : Case) (touched : ℕ → Type 0) (table : List ℕ) (n : 
   pub if-not : (k : ℕ) → k < C .branches → (Shortlisted C table touched k → C .served k ≡ true → ⊥) → judged k ≡ false
   pub count : n ≡ size (C .branches) judged
 
-pub record TakeCounted (b : ℕ) (before after : Lent) (r : Taken) : Type 0 where
-  pub ends : TakeEnds b before after (r .answer)
-  pub judges : r .answer ≡ accepted → Judges (out (caseIn (before .book)) b) (Touched (on (before .flow)) (on (after .flow)) b) (before .table) (r .judged)
+pub record TakeCounted (percent b : ℕ) (before after : Lent) (r : Taken) : Type 0 where
+  pub ends : TakeEnds percent b before after (r .answer)
+  pub judges : r .answer ≡ accepted
+      → Judges (out (caseIn percent (before .book)) b) (Touched (on (before .flow)) (on (after .flow)) b) (before .table) (r .judged)
   pub none : (r .answer ≡ accepted → ⊥) → r .judged ≡ 0

@@ -74,16 +74,22 @@ fn short(excess: u32, group: [u8; 16]) -> Taken
     Taken { answer, judged: 0 }
 }
 
-// Refusals 1 to 12; accepted, one status bit is cleared, the flow is rerouted within the normal limits, and the shortlist is written anew.
+// Refusals 21 and 1 to 12; accepted, one status bit is cleared, the flow is rerouted within the normal limits, and the shortlist is written anew.
 // The losses judged on the way are counted.
-pub fn take_out_counted(book: &mut [u8], flow: &mut [i32], table: &mut [u8], branch: usize) -> Taken
-    ensures { λ r. ⌜ TakeCounted branch (lent (now (book .entry)) (now (flow .entry)) (now (table .entry))) (lent (now (book .exit)) (now (flow .exit)) (now (table .exit))) r ⌝ }
+pub fn take_out_counted(
+    percent: u32,
+    book: &mut [u8],
+    flow: &mut [i32],
+    table: &mut [u8],
+    branch: usize,
+) -> Taken
+    ensures { λ r. ⌜ TakeCounted percent branch (lent (now (book .entry)) (now (flow .entry)) (now (table .entry))) (lent (now (book .exit)) (now (flow .exit)) (now (table .exit))) r ⌝ }
 {
-    let found = switch::check(book, flow.len(), table.len(), branch, 0, 10);
+    let found = switch::check(percent, book, flow.len(), table.len(), branch, 0, 10);
     let Outcome::Accepted = found else {
         return told(found, 0);
     };
-    let lent = state::survey_lent(book, flow);
+    let lent = state::survey_lent(percent, book, flow);
     let fits = lent.fits;
     if !fits {
         return told(answer::refuse(11), 0);
@@ -115,9 +121,15 @@ pub fn take_out_counted(book: &mut [u8], flow: &mut [i32], table: &mut [u8], bra
     told(Outcome::Accepted, losses)
 }
 
-pub fn take_out(book: &mut [u8], flow: &mut [i32], table: &mut [u8], branch: usize) -> Answer
-    ensures { λ r. ⌜ TakeEnds branch (lent (now (book .entry)) (now (flow .entry)) (now (table .entry))) (lent (now (book .exit)) (now (flow .exit)) (now (table .exit))) r ⌝ }
+pub fn take_out(
+    percent: u32,
+    book: &mut [u8],
+    flow: &mut [i32],
+    table: &mut [u8],
+    branch: usize,
+) -> Answer
+    ensures { λ r. ⌜ TakeEnds percent branch (lent (now (book .entry)) (now (flow .entry)) (now (table .entry))) (lent (now (book .exit)) (now (flow .exit)) (now (table .exit))) r ⌝ }
 {
-    let taken = take_out_counted(book, flow, table, branch);
+    let taken = take_out_counted(percent, book, flow, table, branch);
     taken.answer
 }

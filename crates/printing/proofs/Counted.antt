@@ -59,7 +59,7 @@ module _ (bs table : List ℕ) where
       rw e at (p .so-far)
 
 -- ---- The whole list, by how the screen ended.
-module _ {bs : List ℕ} {after : Lent} {r : Answer} (ends : ScreenEnds (lent bs (replicate 256 (pos 0)) (replicate 13312 0)) after r) where
+module _ {bs : List ℕ} {after : Lent} {r : Answer} (ends : ScreenEnds 100 (lent bs (replicate 256 (pos 0)) (replicate 13312 0)) after r) where
   pub listable : r .outcome ≡ Accepted → Listable bs (after .table)
   listable e = let d = accepted-screen ends e in record { branches-few = d .passes .flow-room; table-long = d .screened .beyond .table-long }
 

@@ -25,7 +25,7 @@ use Rattle.verdict.specs.Record.{recordAt, verdictIn, shortageIn, Told}
 use Rattle.verdict.specs.Update.{Lent}
 use Rattle.state.specs.Case.{caseOf, caseIn}
 use Rattle.state.specs.Call.{lent, lentNumbers, OverloadSaid}
-use Rattle.state.proofs.Checked.{passed, passing, posed-book, lent-gives}
+use Rattle.state.proofs.Checked.{passed, passing, posed-passed, lent-gives}
 use Rattle.state.proofs.Status.{branches-of}
 use Rattle.screen.specs.Promise.{screenCheck, ScreenEnds, refuses, overloads, accepts}
 use Rattle.line.specs.Text.{decimalOf, nextOf, joined}
@@ -38,9 +38,9 @@ use Rattle.screen.proofs.AcceptedScreen.{never-over, number-zero, accepted-scre
 use Rattle.printing.proofs.ShownOfCase.{shortOver, short-over, shows-out, shows-carries, shows-short}
 use Rattle.printing.proofs.LinesApart.{first-line, next-line, line-of-joined}
 
-case-buses : (bs : List ℕ) → caseIn bs .buses ≡ busesIn bs
+case-buses : (percent : ℕ) (bs : List ℕ) → caseIn percent bs .buses ≡ busesIn bs
 unfolding caseOf
-case-buses bs = buses-of bs
+case-buses percent bs = buses-of bs
 
 -- ---- The lines stand apart: line 0 is the head line, and line k + 1 that of branch k.
 plain-head : (bs : List ℕ) → Plain (headText bs)
@@ -83,31 +83,33 @@ module _ (bs : List ℕ) (r : Answer) (table : List ℕ) (ok : r .outcome ≡ Ac
       ∙ line-of-joined (branchText table) (plain-branch table) (branchesIn bs) k [] l)
 
 -- ---- An accepted book.
-module _ {bs : List ℕ} {flow : List ℤ} {table : List ℕ} {after : Lent} {r : Answer} (ends : ScreenEnds (lent bs flow table) after r) where
-  few : r .outcome ≡ Accepted → caseIn bs .buses ≤ 128
-  few ok = posed-book bs (accepted-screen ends ok .passes .book) .few-buses
+module _ {percent : ℕ} {bs : List ℕ} {flow : List ℤ} {table : List ℕ} {after : Lent} {r : Answer}
+    (ends : ScreenEnds percent (lent bs flow table) after r) where
+  few : r .outcome ≡ Accepted → caseIn percent bs .buses ≤ 128
+  few ok = posed-passed (accepted-screen ends ok .passes) .few-buses
 
-  told : (ok : r .outcome ≡ Accepted) (k : ℕ) → k < branchesIn bs → Told (caseIn bs) (on (after .flow)) k (recordAt (after .table) k)
-  told ok k l = accepted-screen ends ok .screened .table-true .each k (rw (branches-of bs) l) .told
+  told : (ok : r .outcome ≡ Accepted) (k : ℕ) → k < branchesIn bs → Told (caseIn percent bs) (on (after .flow)) k (recordAt (after .table) k)
+  told ok k l = accepted-screen ends ok .screened .table-true .each k (rw (branches-of percent bs) l) .told
 
   module _ (ok : r .outcome ≡ Accepted) (k : ℕ) (l : k < branchesIn bs) where
     shown : (t : List ℕ) → shownText (recordAt (after .table) k) ≡ t → lineAt (suc k) (listText bs r (after .table)) ≡ decimalOf k ++ t
     shown t e = branch-line bs r (after .table) ok k l ∙ ap (λ (x : List ℕ). decimalOf k ++ x) e
 
     -- A branch out of service.
-    pub out-line : caseIn bs .served k ≡ false → lineAt (suc k) (listText bs r (after .table)) ≡ decimalOf k ++ outWord
-    out-line h = shown outWord (shows-out (caseIn bs) (few ok) k _ _ (told ok k l) h)
+    pub out-line : caseIn percent bs .served k ≡ false → lineAt (suc k) (listText bs r (after .table)) ≡ decimalOf k ++ outWord
+    out-line h = shown outWord (shows-out (caseIn percent bs) (few ok) k _ _ (told ok k l) h)
 
     -- One that carries.
-    pub carries-line : caseIn bs .served k ≡ true → Carries (caseIn bs) k → lineAt (suc k) (listText bs r (after .table)) ≡ decimalOf k ++ carriesWord
-    carries-line h c = shown carriesWord (shows-carries (caseIn bs) (few ok) k _ _ (told ok k l) h c)
+    pub carries-line : caseIn percent bs .served k ≡ true → Carries (caseIn percent bs) k
+        → lineAt (suc k) (listText bs r (after .table)) ≡ decimalOf k ++ carriesWord
+    carries-line h c = shown carriesWord (shows-carries (caseIn percent bs) (few ok) k _ _ (told ok k l) h c)
 
     -- One that is short, by any v and S that the case has: v, how many of the book's buses are in S, and these in rising order.
-    pub short-line : caseIn bs .served k ≡ true → (v : ℕ) (S : Group) → Short (caseIn bs) k v S
+    pub short-line : caseIn percent bs .served k ≡ true → (v : ℕ) (S : Group) → Short (caseIn percent bs) k v S
         → lineAt (suc k) (listText bs r (after .table)) ≡ decimalOf k ++ (shortWord ++ (nextOf v ++ membersText (busesIn bs) S))
     short-line h v S s =
-        shown (shortWord ++ shortOver (caseIn bs .buses) v S) (shows-short (caseIn bs) (few ok) k _ _ (told ok k l) h v S s)
-        ∙ ap (λ (n : ℕ). decimalOf k ++ (shortWord ++ shortOver n v S)) (case-buses bs)
+        shown (shortWord ++ shortOver (caseIn percent bs .buses) v S) (shows-short (caseIn percent bs) (few ok) k _ _ (told ok k l) h v S s)
+        ∙ ap (λ (n : ℕ). decimalOf k ++ (shortWord ++ shortOver n v S)) (case-buses percent bs)
 
 -- ---- A refused book.
 said-by-check : (o : Outcome) {r : Answer} → SaidBy o r → (numberOf o ≡ 12 → ⊥)
@@ -120,21 +122,22 @@ over-said C few {r} o v S s =
     rw (o .answer .number-is, o .answer .shortage-is, o .answer .group-is)
     (ap (λ (t : List ℕ). refusedWord ++ (nextOf 12 ++ t)) (short-over (o .group) few s (o .overload)))
 
-module _ {bs : List ℕ} {flow : List ℤ} {table : List ℕ} {after : Lent} {r : Answer} where
+module _ {percent : ℕ} {bs : List ℕ} {flow : List ℤ} {table : List ℕ} {after : Lent} {r : Answer} where
   -- By its check: the number, and for 4 and 5 the place.
-  pub refused-line : ScreenEnds (lent bs flow table) after r → (screenCheck (lent bs flow table) ≡ Accepted → ⊥)
+  pub refused-line : ScreenEnds percent (lent bs flow table) after r → (screenCheck percent (lent bs flow table) ≡ Accepted → ⊥)
       → listText bs r (after .table)
-      ≡ lineOf (refusedWord ++ (nextOf (numberOf (screenCheck (lent bs flow table))) ++ placeText (placeOf (screenCheck (lent bs flow table)))))
+      ≡ lineOf (refusedWord ++
+      (nextOf (numberOf (screenCheck percent (lent bs flow table))) ++ placeText (placeOf (screenCheck percent (lent bs flow table)))))
   unfolding member
   refused-line (refuses n a k) h =
       leaves (r .outcome) _ _ (λ e. n (passing _ _ _ (accepted-screen (refuses n a k) e .passes)))
-      ∙ ap lineOf (said-by-check (screenCheck (lent bs flow table)) a
-      (gives-not lentNumbers (screenCheck (lent bs flow table)) 12 (lent-gives _ _ _) refl (λ z. omega arith)))
+      ∙ ap lineOf (said-by-check (screenCheck percent (lent bs flow table)) a
+      (gives-not lentNumbers (screenCheck percent (lent bs flow table)) 12 (lent-gives _ _ _ _) refl (λ z. omega arith)))
   refused-line (overloads c o k) h = absurd (h c)
   refused-line (accepts c a s) h = absurd (h c)
 
   -- An answer with a place: the number, the item and the field.
-  pub wrong-line : ScreenEnds (lent bs flow table) after r → {i j : ℕ} → placeOf (r .outcome) ≡ At i j
+  pub wrong-line : ScreenEnds percent (lent bs flow table) after r → {i j : ℕ} → placeOf (r .outcome) ≡ At i j
       → listText bs r (after .table) ≡ lineOf (refusedWord ++ (nextOf (numberOf (r .outcome)) ++ (nextOf i ++ nextOf j)))
   wrong-line (refuses n a k) e =
       refused-line (refuses n a k) n
@@ -143,12 +146,12 @@ module _ {bs : List ℕ} {flow : List ℤ} {table : List ℕ} {after : Lent} {r 
   wrong-line (accepts c a s) e = absurd (at-not-nowhere (a .place-is) e)
 
   -- By its base excess: 12, then any v and S that the case has, as in the line of a short branch.
-  pub overload-line : ScreenEnds (lent bs flow table) after r → screenCheck (lent bs flow table) ≡ Accepted
-      → (v : ℕ) (S : Group) → Overload (caseIn bs) v S
+  pub overload-line : ScreenEnds percent (lent bs flow table) after r → screenCheck percent (lent bs flow table) ≡ Accepted
+      → (v : ℕ) (S : Group) → Overload (caseIn percent bs) v S
       → listText bs r (after .table) ≡ lineOf (refusedWord ++ (nextOf 12 ++ (nextOf v ++ membersText (busesIn bs) S)))
   overload-line (refuses n a k) c v S s = absurd (n c)
   overload-line (overloads c o k) c′ v S s =
       leaves (r .outcome) _ _ (λ e. absurd (omega (arith, o .answer .number-is, number-zero e)))
-      ∙ ap lineOf (over-said (caseIn bs) (posed-book bs (passed _ _ _ c .book) .few-buses) o v S s)
-      ∙ ap (λ (n : ℕ). lineOf (refusedWord ++ (nextOf 12 ++ shortOver n v S))) (case-buses bs)
-  overload-line (accepts c a x) c′ v S s = absurd (never-over c x v S s)
+      ∙ ap lineOf (over-said (caseIn percent bs) (posed-passed (passed _ _ _ c) .few-buses) o v S s)
+      ∙ ap (λ (n : ℕ). lineOf (refusedWord ++ (nextOf 12 ++ shortOver n v S))) (case-buses percent bs)
+  overload-line (accepts c a x) c′ v S s = absurd (never-over _ c x v S s)

@@ -34,9 +34,9 @@ lineAt n [] = []
 lineAt zero (x ∷ xs) = cond (eqb x 10) [] (x ∷ lineAt zero xs)
 lineAt (suc n) (x ∷ xs) = cond (eqb x 10) (lineAt n xs) (lineAt (suc n) xs)
 
--- The answer of a screen of the book, lent room for 256 branches: no book is refused for want of it. As many bytes were handed to `write`, line by
--- line, as the list of that answer and of the table left has.
+-- The answer of a screen of the book at 100 of nameplate, lent room for 256 branches: no book is refused for want of it. As many bytes were handed to
+-- `write`, line by line, as the list of that answer and of the table left has.
 pub record Printed (bs : List ℕ) (r : Printout) : Type 0 where
   pub after : Lent
-  pub ends : ScreenEnds (lent bs (replicate 256 (pos 0)) (replicate 13312 0)) after (r .answer)
+  pub ends : ScreenEnds 100 (lent bs (replicate 256 (pos 0)) (replicate 13312 0)) after (r .answer)
   pub long : r .length ≡ length (listText bs (r .answer) (after .table))

@@ -68,7 +68,7 @@ pub fn print_list(book: &[u8]) -> Printout
 {
     let mut flow = [0i32; 256];
     let mut table = [0u8; 13312];
-    let answer = screen::screen(book, &mut flow, &mut table);
+    let answer = screen::screen(100, book, &mut flow, &mut table);
     let outcome = answer.outcome;
     let Outcome::Accepted = outcome else {
         let length = print_refused(answer);

@@ -1,3 +1,4 @@
 pub mod Parts
+pub mod Limits
 pub mod Machine
 pub mod Examples

@@ -3,7 +3,7 @@ ghost use mathlib.Core.Path.{_≡_};
 ghost use Prim.Native.Nat.{_≤_};
 ghost use lib.IntN.{pos, _-ℤ_};
 ghost use Rattle.quantity.specs.Signed.{posPart, negPart, ofSize};
-ghost use Rattle.quantity.specs.Rating.{limitOf};
+ghost use Rattle.quantity.specs.Rating.{limitOf, percentOut};
 ghost use Rattle.quantity.specs.Register.{advance};
 
 // Apparent power.
@@ -12,13 +12,23 @@ pub struct Kva(pub u32);
 // Real power.
 pub struct Kw(pub u32);
 
-// What a rating allows at a power factor in thousandths. A rating leaves its kVA nowhere else.
-pub fn limit(rating: Kva, factor: u32) -> Kw
-    requires { ⌜ factor ≤ 1000 ⌝ }
-    ensures { λ r. ⌜ r .0 ≡ limitOf (rating .0) factor ⌝ }
+// What a rating allows at a power factor in thousandths and a percentage of nameplate. A rating leaves its kVA nowhere else.
+pub fn limit(rating: Kva, factor: u32, percent: u32) -> Kw
+    requires { ⌜ (factor ≤ 1000) × (percent ≤ 100) ⌝ }
+    ensures { λ r. ⌜ r .0 ≡ limitOf (rating .0) factor percent ⌝ }
 {
     let kva = rating.0;
-    Kw((kva as u64 * factor as u64 / 1000) as u32)
+    Kw((kva as u64 * factor as u64 * percent as u64 / 100000) as u32)
+}
+
+// Whether a percentage is outside 50 to 100.
+pub fn percent_out(percent: u32) -> bool
+    ensures { λ r. ⌜ r ≡ percentOut percent ⌝ }
+{
+    if percent < 50 {
+        return true;
+    }
+    100 < percent
 }
 
 // What of x lies above 0.

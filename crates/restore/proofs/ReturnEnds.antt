@@ -33,27 +33,29 @@ use Rattle.restore.proofs.Checking.{Returnable, returnable, back-gives}
 use Rattle.restore.proofs.ToBeWritten.{anew-listed, anew-unlisted}
 use Rattle.restore.proofs.StateBack as comeback
 
-module _ (bs : List ℕ) (flow : List ℤ) (table : List ℕ) (b : ℕ) where
+module _ (percent : ℕ) (bs : List ℕ) (flow : List ℤ) (table : List ℕ) (b : ℕ) where
   abbrev checks : Outcome
-  checks = backCheck bs (length flow) (length table) b
+  checks = backCheck percent bs (length flow) (length table) b
 
   abbrev C : Case
-  C = caseIn bs
+  C = caseIn percent bs
 
   -- Refused by its checks.
-  pub ends-refused : {r : Answer} (o : Outcome) → o ≡ checks → (o ≡ Accepted → ⊥) → r ≡ bare o → BackEnds b (lent bs flow table) (lent bs flow table) r
+  pub ends-refused : {r : Answer} (o : Outcome) → o ≡ checks → (o ≡ Accepted → ⊥) → r ≡ bare o
+      → BackEnds percent b (lent bs flow table) (lent bs flow table) r
   unfolding member
-  ends-refused o e n a = refuses (λ q. n (e ∙ q)) (gives-said backNumbers checks refl refl (back-gives bs (length flow) (length table) b) (a ∙ ap bare e)) refl
+  ends-refused o e n a = refuses (λ q. n (e ∙ q))
+      (gives-said backNumbers checks refl refl (back-gives percent bs (length flow) (length table) b) (a ∙ ap bare e)) refl
 
   module _ (ok : checks ≡ Accepted) where
-    pub may : Returnable bs (length flow) (length table) b
+    pub may : Returnable percent bs (length flow) (length table) b
     may = returnable bs (length flow) (length table) b ok
 
-    module _ (q : Survey) (p : Surveyed bs flow q) where
+    module _ (q : Survey) (p : Surveyed percent bs flow q) where
       there : b < C .branches
       there = branch-there p (may .there)
 
-      pub ends-unfit : {r : Answer} → q .fits ≡ false → r ≡ refused 11 → BackEnds b (lent bs flow table) (lent bs flow table) r
+      pub ends-unfit : {r : Answer} → q .fits ≡ false → r ≡ refused 11 → BackEnds percent b (lent bs flow table) (lent bs flow table) r
       ends-unfit e a = unfit ok (p .unfit e) (rw a (said-refused 11 (λ z. omega arith) (λ z. omega arith))) refl
 
       module _ (e : q .fits ≡ true) where
@@ -82,9 +84,9 @@ module _ (bs : List ℕ) (flow : List ℤ) (table : List ℕ) (b : ℕ) where
           pub ends-back : {bs′ table′ bits : List ℕ} {losses : ℕ} {r : Answer} → r ≡ accepted → Listing (q .wires .branches) (anewAt table b) bits
               → bs′ ≡ setBit bs (statusBit bs b) 1
               → ((D : Case) (f : ℕ → ℤ) → State D f (q .wires) served brief left → Rewritten D f served bits table table′ losses)
-              → BackEnds b (lent bs flow table) (lent bs′ flow table′) r
+              → BackEnds percent b (lent bs flow table) (lent bs′ flow table′) r
           ends-back {bs′} {table′} {bits} a list book-is fresh =
-              let c = restates bs b 1 (may .passes .book) (may .there) (omega arith) in
+              let c = restates percent bs b 1 (may .passes .book) (may .there) (omega arith) in
               let redone = fresh (back C b) (on flow) state-here .table-is in
               let bit : (k : ℕ) → k < C .branches → k < q .wires .branches = λ k u. omega (arith, p .held .branches-are) in
               let anew = renewed (back C b) (Anew table b) (state-here .fits) redone

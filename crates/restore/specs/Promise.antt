@@ -16,9 +16,9 @@ use Rattle.state.specs.Case.{caseIn}
 use Rattle.state.specs.Call.{Ends}
 use Rattle.switch.specs.Check.{branchCheck, branchNumbers}
 
--- Refusals 1 to 8, then 9, then 17: already in service.
-abbrev pub backCheck : List ℕ → ℕ → ℕ → ℕ → Outcome
-backCheck bs flows bytes b = branchCheck bs flows bytes b 1 17
+-- Refusals 21 and 1 to 8, then 9, then 17: already in service.
+abbrev pub backCheck : ℕ → List ℕ → ℕ → ℕ → ℕ → Outcome
+backCheck percent bs flows bytes b = branchCheck percent bs flows bytes b 1 17
 
 abbrev pub backNumbers : List ℕ
 backNumbers = 17 ∷ branchNumbers
@@ -34,16 +34,16 @@ emptyRecord = 1 ∷ replicate 51 0
 
 -- An accepted call sets one status bit, changes no flow, gives the returned branch an empty reroute and verdict 1, and writes anew every record whose
 -- byte 0 isn't 1. Other records keep their bytes.
-pub record BroughtBack (b : ℕ) (before after : Lent) : Type 0 where
+pub record BroughtBack (percent b : ℕ) (before after : Lent) : Type 0 where
   pub book-is : after .book ≡ setBit (before .book) (statusBit (before .book) b) 1
   pub book-accepted : checkOf (after .book) ≡ Accepted
-  pub case-is : caseIn (after .book) ≡ back (caseIn (before .book)) b
+  pub case-is : caseIn percent (after .book) ≡ back (caseIn percent (before .book)) b
   pub flow-is : after .flow ≡ before .flow
   pub own-is : recordAt (after .table) b ≡ emptyRecord
-  pub renewed : Renewed (back (caseIn (before .book)) b) (Anew (before .table) b) before after
+  pub renewed : Renewed (back (caseIn percent (before .book)) b) (Anew (before .table) b) before after
 
 -- How the call ends: refused by its checks, with 11, or accepted. It never ends with 12, since the flow lent fits the changed book.
-abbrev pub BackEnds : ℕ → Lent → Lent → Answer → Type 0
-BackEnds b before after r =
-    Ends (backCheck (before .book) (length (before .flow)) (length (before .table)) b)
-    (caseIn (before .book)) (back (caseIn (before .book)) b) (BroughtBack b before after) before after r
+abbrev pub BackEnds : ℕ → ℕ → Lent → Lent → Answer → Type 0
+BackEnds percent b before after r =
+    Ends (backCheck percent (before .book) (length (before .flow)) (length (before .table)) b)
+    (caseIn percent (before .book)) (back (caseIn percent (before .book)) b) (BroughtBack percent b before after) before after r

@@ -37,16 +37,22 @@ fn anew(table: &[u8], branches: usize, branch: usize) -> [u8; 32]
     row
 }
 
-// Refusals 1 to 9, 17 and 11; accepted, one status bit is set, and the records that aren't carrying are written anew.
+// Refusals 21, 1 to 9, 17 and 11; accepted, one status bit is set, and the records that aren't carrying are written anew.
 // A branch without flow has its whole limit left in each direction. The flow is tested by the normal limits, and losses are judged by the second.
-pub fn bring_back(book: &mut [u8], flow: &[i32], table: &mut [u8], branch: usize) -> Answer
-    ensures { λ r. ⌜ BackEnds branch (lent (now (book .entry)) (now (flow .entry)) (now (table .entry))) (lent (now (book .exit)) (now (flow .entry)) (now (table .exit))) r ⌝ }
+pub fn bring_back(
+    percent: u32,
+    book: &mut [u8],
+    flow: &[i32],
+    table: &mut [u8],
+    branch: usize,
+) -> Answer
+    ensures { λ r. ⌜ BackEnds percent branch (lent (now (book .entry)) (now (flow .entry)) (now (table .entry))) (lent (now (book .exit)) (now (flow .entry)) (now (table .exit))) r ⌝ }
 {
-    let found = switch::check(book, flow.len(), table.len(), branch, 1, 17);
+    let found = switch::check(percent, book, flow.len(), table.len(), branch, 1, 17);
     let Outcome::Accepted = found else {
         return answer::answer_with(found);
     };
-    let lent = state::survey_lent(book, flow);
+    let lent = state::survey_lent(percent, book, flow);
     let fits = lent.fits;
     if !fits {
         return answer::answer_with(answer::refuse(11));

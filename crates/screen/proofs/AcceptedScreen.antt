@@ -17,30 +17,31 @@ use Rattle.verdict.proofs.Fitting.{fits-none}
 use Rattle.verdict.proofs.Loss.{never-overload}
 use Rattle.state.specs.Case.{caseIn}
 use Rattle.state.specs.Call.{lentNumbers}
-use Rattle.state.proofs.Checked.{Passed, passed, posed-book, lent-gives}
+use Rattle.state.proofs.Checked.{Passed, passed, posed-passed, lent-gives}
 use Rattle.screen.specs.Promise.{Screened, screenCheck, ScreenEnds, refuses, overloads, accepts}
 
-pub record Done (before after : Lent) : Type 0 where
-  pub passes : Passed (before .book) (length (before .flow)) (length (before .table))
-  pub posed-case : Posed (caseIn (before .book))
-  pub screened : Screened (caseIn (before .book)) before after
+pub record Done (percent : ℕ) (before after : Lent) : Type 0 where
+  pub passes : Passed percent (before .book) (length (before .flow)) (length (before .table))
+  pub posed-case : Posed (caseIn percent (before .book))
+  pub screened : Screened (caseIn percent (before .book)) before after
 
 -- A flow that fits was left, so no group is overloaded.
-pub never-over : {before after : Lent} → screenCheck before ≡ Accepted → Screened (caseIn (before .book)) before after
-    → (v : ℕ) (S : Group) → Overload (caseIn (before .book)) v S → ⊥
-never-over {before} {after} c x v S o =
-    let posed = posed-book (before .book) (passed _ _ _ c .book) in
-    never-overload (caseIn (before .book)) v S (fits-none (caseIn (before .book)) (on (after .flow)) posed (x .table-true .fits)) o
+pub never-over : (percent : ℕ) {before after : Lent} → screenCheck percent before ≡ Accepted → Screened (caseIn percent (before .book)) before after
+    → (v : ℕ) (S : Group) → Overload (caseIn percent (before .book)) v S → ⊥
+never-over percent {before} {after} c x v S o =
+    let posed = posed-passed (passed _ _ _ c) in
+    never-overload (caseIn percent (before .book)) v S (fits-none (caseIn percent (before .book)) (on (after .flow)) posed (x .table-true .fits)) o
 
 pub number-zero : {o : Outcome} → o ≡ Accepted → numberOf o ≡ 0
 number-zero e = ap numberOf e
 
-pub accepted-screen : {before after : Lent} {r : Answer} → ScreenEnds before after r → r .outcome ≡ Accepted → Done before after
+pub accepted-screen : {percent : ℕ} {before after : Lent} {r : Answer} → ScreenEnds percent before after r → r .outcome ≡ Accepted
+    → Done percent before after
 unfolding member
-accepted-screen {before} (refuses n a k) e =
-    let is = said-is lentNumbers (screenCheck before) refl refl (lent-gives _ _ _) a in
+accepted-screen {percent} {before} (refuses n a k) e =
+    let is = said-is lentNumbers (screenCheck percent before) refl refl (lent-gives _ _ _ _) a in
     absurd (n (sym (ap (λ (x : Answer). x .outcome) is) ∙ e))
 accepted-screen (overloads c o k) e = absurd (omega (arith, o .answer .number-is, number-zero e))
-accepted-screen {before} (accepts c a s) e =
+accepted-screen {before = before} (accepts c a s) e =
     let p = passed (before .book) (length (before .flow)) (length (before .table)) c in
-    record { passes = p; posed-case = posed-book (before .book) (p .book); screened = s }
+    record { passes = p; posed-case = posed-passed p; screened = s }

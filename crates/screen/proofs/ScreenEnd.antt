@@ -24,7 +24,7 @@ use Rattle.state.proofs.Checked.{lent-gives, passed}
 use Rattle.state.proofs.Status.{branches-of}
 use Rattle.screen.specs.Promise.{ScreenEnds, refuses, overloads, accepts}
 
-pub screen-proper : {before after : Lent} {r : Answer} → ScreenEnds before after r → Proper (r .outcome)
+pub screen-proper : {percent : ℕ} {before after : Lent} {r : Answer} → ScreenEnds percent before after r → Proper (r .outcome)
 screen-proper (refuses n a k) = a .proper
 screen-proper (overloads c o k) = o .answer .proper
 screen-proper (accepts c a s) = a .proper
@@ -40,31 +40,33 @@ all-test = refl
 is-listed : (k : ℕ) → k < 256 → has all-listed k ≡ true
 is-listed k u = every-at (has all-listed) 256 all-test k u
 
-module _ (bs : List ℕ) (flow : List ℤ) (table : List ℕ) where
+module _ (percent : ℕ) (bs : List ℕ) (flow : List ℤ) (table : List ℕ) where
   abbrev checks : Outcome
-  checks = lentCheck bs (length flow) (length table)
+  checks = lentCheck percent bs (length flow) (length table)
 
-  pub by-check : (o : Outcome) {r : Answer} → o ≡ checks → (o ≡ Accepted → ⊥) → r ≡ bare o → ScreenEnds (lent bs flow table) (lent bs flow table) r
+  pub by-check : (o : Outcome) {r : Answer} → o ≡ checks → (o ≡ Accepted → ⊥) → r ≡ bare o
+      → ScreenEnds percent (lent bs flow table) (lent bs flow table) r
   unfolding member
   by-check o e n a =
-      refuses (λ q. n (e ∙ q)) (gives-said lentNumbers checks refl refl (lent-gives bs (length flow) (length table)) (a ∙ ap bare e)) refl
+      refuses (λ q. n (e ∙ q)) (gives-said lentNumbers checks refl refl (lent-gives percent bs (length flow) (length table)) (a ∙ ap bare e)) refl
 
   module _ (ok : checks ≡ Accepted) where
-    pub by-overload : {r : Answer} → OverloadSaid (caseIn bs) r → ScreenEnds (lent bs flow table) (lent bs flow table) r
+    pub by-overload : {r : Answer} → OverloadSaid (caseIn percent bs) r → ScreenEnds percent (lent bs flow table) (lent bs flow table) r
     by-overload o = overloads ok o refl
 
-    pub by-table : {n : ℕ} (f : ℕ → ℤ) {served : List Bool} {flow′ : List ℤ} {table′ : List ℕ} {losses : ℕ} {r : Answer} → r ≡ bare Accepted → n ≡ caseIn bs .branches
-        → n ≤ length flow → flow′ ≡ headed n f flow → Fits (caseIn bs) (caseIn bs .limit) (on flow′)
-        → Rewritten (caseIn bs) (on flow′) served all-listed table table′ losses → (caseIn bs .branches ≤ 256)
-        → ScreenEnds (lent bs flow table) (lent bs flow′ table′) r
+    pub by-table : {n : ℕ} (f : ℕ → ℤ) {served : List Bool} {flow′ : List ℤ} {table′ : List ℕ} {losses : ℕ} {r : Answer} → r ≡ bare Accepted
+        → n ≡ caseIn percent bs .branches
+        → n ≤ length flow → flow′ ≡ headed n f flow → Fits (caseIn percent bs) (caseIn percent bs .limit) (on flow′)
+        → Rewritten (caseIn percent bs) (on flow′) served all-listed table table′ losses → (caseIn percent bs .branches ≤ 256)
+        → ScreenEnds percent (lent bs flow table) (lent bs flow′ table′) r
     by-table {n} f {served} {flow′} {table′} a c l w fits t few =
         let long : length flow′ ≡ length flow = ap length w ∙ length-headed n f flow l in
         let p = passed bs (length flow) (length table) ok in
         let wrote = t .table-is in
         accepts ok (rw a said-accepted) (record {
           table-true = record {
-            room = omega (arith, branches-of bs, p .flow-room);
-            long = omega (arith, branches-of bs, p .table-room, wrote .long);
+            room = omega (arith, branches-of percent bs, p .flow-room);
+            long = omega (arith, branches-of percent bs, p .table-room, wrote .long);
             fits = fits;
             each = λ k u. wrote .rewritten k u (is-listed k (omega arith));
           };

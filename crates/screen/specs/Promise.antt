@@ -1,5 +1,6 @@
 -- What `screen` promises.
 use mathlib.Core.Path.{_≡_}
+use Prim.Native.Nat.{ℕ}
 use lib.ListN.{length}
 use Rattle.answer.specs.Answer.{SaidBy}
 use Rattle.answer.specs.declared.Outcome.{Outcome}
@@ -17,11 +18,13 @@ pub record Screened (C : Case) (before after : Lent) : Type 0 where
   pub book-kept : after .book ≡ before .book
   pub beyond : Beyond C before after
 
-abbrev pub screenCheck : Lent → Outcome
-screenCheck l = lentCheck (l .book) (length (l .flow)) (length (l .table))
+abbrev pub screenCheck : ℕ → Lent → Outcome
+screenCheck percent l = lentCheck percent (l .book) (length (l .flow)) (length (l .table))
 
-pub data ScreenEnds (before after : Lent) (r : Answer) : Type 0 where
-  refuses : (screenCheck before ≡ Accepted → ⊥) → SaidBy (screenCheck before) r → after ≡ before → ScreenEnds before after r
+pub data ScreenEnds (percent : ℕ) (before after : Lent) (r : Answer) : Type 0 where
+  refuses : (screenCheck percent before ≡ Accepted → ⊥) → SaidBy (screenCheck percent before) r → after ≡ before → ScreenEnds percent before after r
   -- 12: the base excess of the book
-  overloads : screenCheck before ≡ Accepted → OverloadSaid (caseIn (before .book)) r → after ≡ before → ScreenEnds before after r
-  accepts : screenCheck before ≡ Accepted → SaidBy Accepted r → Screened (caseIn (before .book)) before after → ScreenEnds before after r
+  overloads : screenCheck percent before ≡ Accepted → OverloadSaid (caseIn percent (before .book)) r → after ≡ before
+      → ScreenEnds percent before after r
+  accepts : screenCheck percent before ≡ Accepted → SaidBy Accepted r → Screened (caseIn percent (before .book)) before after
+      → ScreenEnds percent before after r

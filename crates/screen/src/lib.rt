@@ -5,15 +5,15 @@ use answer::Answer;
 use answer::Outcome;
 use reroute::Verdict;
 
-// Refusals 1 to 8 and 12; accepted, the flow and the table of every branch. The flow keeps to the normal limits, and losses are judged by the second.
-pub fn screen(book: &[u8], flow: &mut [i32], table: &mut [u8]) -> Answer
-    ensures { λ r. ⌜ ScreenEnds (lent (now (book .entry)) (now (flow .entry)) (now (table .entry))) (lent (now (book .entry)) (now (flow .exit)) (now (table .exit))) r ⌝ }
+// Refusals 21, 1 to 8 and 12; accepted, a flow within the normal limits, and the record of every branch's loss, judged by the second.
+pub fn screen(percent: u32, book: &[u8], flow: &mut [i32], table: &mut [u8]) -> Answer
+    ensures { λ r. ⌜ ScreenEnds percent (lent (now (book .entry)) (now (flow .entry)) (now (table .entry))) (lent (now (book .entry)) (now (flow .exit)) (now (table .exit))) r ⌝ }
 {
-    let found = state::check_lent(book, flow.len(), table.len());
+    let found = state::check_lent(percent, book, flow.len(), table.len());
     let Outcome::Accepted = found else {
         return answer::answer_with(found);
     };
-    let plan = state::prepare(book::rows_of(book));
+    let plan = state::prepare(book::rows_of(percent, book));
     let wires = plan.wires;
     let live = plan.live;
     let brief = plan.brief;

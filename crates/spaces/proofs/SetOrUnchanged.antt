@@ -1,4 +1,4 @@
--- A space set: the stream too short, the place or the book beyond the space, and what is set.
+-- A space or the percentage set: the stream too short, the place or the book beyond the space, and what is set.
 use mathlib.Core.Path.{_≡_, refl}
 use mathlib.Core.List.{List}
 use Prim.Native.Nat.{ℕ, _+_, _<_, _≤_}
@@ -6,7 +6,7 @@ use native.Mathlib.Omega.{arith}
 use borrow.Author.Tests.{lt-leb, le-leb, lt-ltb, le-ltb}
 use lib.ListN.{length, set}
 use Rattle.rows.specs.Row.{nth, headed, twoAt}
-use Rattle.spaces.specs.InsideSpaces.{PlaceSet, BookSet}
+use Rattle.spaces.specs.InsideSpaces.{PlaceSet, BookSet, PercentSet}
 
 module _ {A : Type 0} (size : ℕ) (v : A) (rest : List ℕ) (space : List A) where
   pub set-short : length rest < size → PlaceSet size v rest space space 0
@@ -71,3 +71,15 @@ module _ (rest book : List ℕ) (bytes : ℕ) where
           left = rw (le-leb 3 (length rest) h, le-leb (twoAt rest 1) (length book) room, le-leb (3 + twoAt rest 1) (length rest) w) (rw (← e, ← q) b);
           within = (g, v);
         }
+
+-- ---- The percentage.
+module _ (rest : List ℕ) (percent : ℕ) where
+  pub percent-short : length rest < 2 → PercentSet rest percent (record { taken = 0; percent = percent })
+  percent-short h = record {
+    took = rw (lt-leb 2 (length rest) h) refl;
+    percent-is = rw (lt-leb 2 (length rest) h) refl;
+    within = omega arith;
+  }
+
+  pub percent-done : {p : ℕ} → 2 ≤ length rest → p ≡ nth rest 1 → PercentSet rest percent (record { taken = 2; percent = p })
+  percent-done h e = record { took = rw (le-leb 2 (length rest) h) refl; percent-is = rw (le-leb 2 (length rest) h) e; within = h }

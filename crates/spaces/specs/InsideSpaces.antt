@@ -1,4 +1,4 @@
--- What the commands that only set a space leave: all spoilt, the book set, one place set.
+-- What the commands that only set a space leave: all spoilt, the book set, the percentage set, one place set.
 use mathlib.Core.Path.{_≡_}
 use mathlib.Core.Bool.{Bool, cond, _&&_}
 use mathlib.Core.List.{List}
@@ -8,6 +8,7 @@ use lib.IntN.{ℤ, pos}
 use lib.ListN.{length, set, replicate}
 use Rattle.rows.specs.Row.{nth, headed, twoAt}
 use Rattle.spaces.specs.declared.Next.{Next}
+use Rattle.spaces.specs.declared.Rated.{Rated}
 use Rattle.spaces.specs.InsideStream.{fourAt, signedFrom}
 
 -- The stream has the bytes of the command, and the space the place that it names.
@@ -53,3 +54,9 @@ pub record BookSet (rest book : List ℕ) (bytes : ℕ) (book′ : List ℕ) (r 
   pub has-bytes : r .bytes ≡ cond (bookReach rest (length book)) (twoAt rest 1) bytes
   pub left : book′ ≡ cond (bookReach rest (length book)) (headed (twoAt rest 1) (λ i. nth rest (3 + i)) book) book
   pub within : (r .taken ≤ length rest) × (r .bytes ≤ length book)
+
+-- `Y`: the percentage is the byte after the letter; where the stream ends before it, the command takes no byte and changes nothing.
+pub record PercentSet (rest : List ℕ) (percent : ℕ) (r : Rated) : Type 0 where
+  pub took : r .taken ≡ cond (leb 2 (length rest)) 2 0
+  pub percent-is : r .percent ≡ cond (leb 2 (length rest)) (nth rest 1) percent
+  pub within : r .taken ≤ length rest

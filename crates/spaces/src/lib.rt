@@ -4,7 +4,7 @@ ghost use Prim.Native.Nat.{_<_, _≤_};
 ghost use lib.ListN.{length};
 ghost use Rattle.rows.specs.Row.{nth};
 ghost use Rattle.spaces.specs.InsideStream.{fourAt, signedFrom};
-ghost use Rattle.spaces.specs.InsideSpaces.{Spoilt, BookSet, PlaceSet, PlacesSet};
+ghost use Rattle.spaces.specs.InsideSpaces.{Spoilt, BookSet, PercentSet, PlaceSet, PlacesSet};
 
 mod numbers;
 mod stream;
@@ -12,6 +12,7 @@ mod stream;
 pub use numbers::Number;
 pub use numbers::number_at;
 use rows::two;
+use rows::wide;
 pub use stream::four;
 use stream::signed;
 
@@ -19,6 +20,12 @@ use stream::signed;
 pub struct Next {
     pub taken: usize,
     pub bytes: usize,
+}
+
+// What `Y` took, and the percentage of the calls after it.
+pub struct Rated {
+    pub taken: usize,
+    pub percent: u32,
 }
 
 // Numbers that no call leaves by itself, so that what it does not write is seen.
@@ -60,6 +67,19 @@ pub fn set_book(rest: &[u8], book: &mut [u8], bytes: usize) -> Next
     Next {
         taken: 3 + count,
         bytes: count,
+    }
+}
+
+// `Y`. Any byte is taken: the calls refuse what is out of range.
+pub fn set_percent(rest: &[u8], percent: u32) -> Rated
+    ensures { λ r. ⌜ PercentSet (now (rest .entry)) percent r ⌝ }
+{
+    if rest.len() < 2 {
+        return Rated { taken: 0, percent };
+    }
+    Rated {
+        taken: 2,
+        percent: wide(rest[1]) as u32,
     }
 }
 

@@ -1,10 +1,9 @@
--- From an accepted book to the rows of its case.
+-- From an accepted book to the rows of its case, at any percentage.
 use mathlib.Core.Path.{_≡_, refl, ap, _∙_, fun-ext}
 use mathlib.Core.Bool.{Bool, false}
 use mathlib.Core.List.{List}
-use Prim.Native.Nat.{ℕ, _*_, _≤_, _<_}
+use Prim.Native.Nat.{ℕ, _≤_, _<_}
 use native.Mathlib.Omega.{arith}
-use native.Mathlib.Nat.{mul-le-mul}
 use lib.Dec.{eqb}
 use lib.IntN.{pos}
 use lib.ListN.{getD, List·getD-eq-default}
@@ -16,6 +15,7 @@ use Rattle.quantity.specs.Inside.{kwAt}
 use Rattle.quantity.specs.Rating.{limitOf}
 use Rattle.quantity.specs.Signed.{posPart, negPart}
 use Rattle.quantity.proofs.Parts.{size-parts}
+use Rattle.quantity.proofs.Limits.{limit-within, limit-by-kva}
 use Rattle.layout.specs.declared.Branch.{Branch}
 use Rattle.layout.specs.Book.{Book, buses, count, injection, branch, noBranch, WellFormed}
 use Rattle.book.specs.Inside.{RowsRead}
@@ -27,16 +27,10 @@ use Rattle.state.specs.Inside.{Live, Plannable, Planned, Held}
 use Rattle.state.specs.declared.Plan.{Plan}
 use Rattle.state.proofs.Raising.{held-normal}
 
-limit-small : (kva factor : ℕ) → kva ≤ 1000000 → factor ≤ 1000 → limitOf kva factor ≤ 1000000
-limit-small kva factor h g = let m : kva * factor ≤ 1000000 * 1000 = mul-le-mul h g in omega arith
-
-limit-rising : (kva kva2 factor : ℕ) → kva ≤ kva2 → limitOf kva factor ≤ limitOf kva2 factor
-limit-rising kva kva2 factor h = let m : kva * factor ≤ kva2 * factor = mul-le-mul h (omega arith) in omega arith
-
 -- A well-formed book makes a case that can be judged.
-pub posed : (b : Book) → WellFormed b → Posed (caseOf b)
+pub posed : {percent : ℕ} (b : Book) → percent ≤ 100 → WellFormed b → Posed (caseOf percent b)
 unfolding caseOf
-posed b w = record {
+posed {percent} b full w = record {
   some-bus = w .some-bus;
   few-buses = w .few-buses;
   few-branches = w .few-branches;
@@ -45,11 +39,11 @@ posed b w = record {
   apart = λ k u. w .good k u .apart;
   sized = λ i u. omega (arith, w .sizes i u, size-parts (injection b i));
   balanced = w .balanced;
-  rated = λ k u. limit-small (branch b k .kva2 .0) (b .factor) (w .good k u .second-rating) (w .small-factor);
-  rising = λ k u. limit-rising (branch b k .kva .0) (branch b k .kva2 .0) (b .factor) (w .good k u .not-below);
+  rated = λ k u. omega (arith, limit-within (branch b k .kva2 .0) (b .factor) percent (w .small-factor) full, w .good k u .second-rating);
+  rising = λ k u. limit-by-kva (b .factor) percent (w .good k u .not-below);
 }
 
-module _ (b : Book) (w : WellFormed b) (r : CaseRows) (h : RowsRead b r) where
+module _ {percent : ℕ} (b : Book) (w : WellFormed b) (r : CaseRows) (h : RowsRead percent b r) where
   pub plannable : Plannable r
   plannable = record {
     wired = record {
@@ -67,24 +61,24 @@ module _ (b : Book) (w : WellFormed b) (r : CaseRows) (h : RowsRead b r) where
 
     -- A row of live limits, by either figure of a branch.
     row-at : (g : Branch → ℕ) (limit : List Kw) (row : List ℕ) → Live (r .branches) (r .served) limit row
-        → ((k : ℕ) → kwAt limit k ≡ limitOf (g (branch b k)) (b .factor))
-        → (k : ℕ) → nth row k ≡ pick (eqb (branch b k .status) 1) (limitOf (g (branch b k)) (b .factor))
+        → ((k : ℕ) → kwAt limit k ≡ limitOf (g (branch b k)) (b .factor) percent)
+        → (k : ℕ) → nth row k ≡ pick (eqb (branch b k .status) 1) (limitOf (g (branch b k)) (b .factor) percent)
     row-at g limit row live is k = elim (side k (count b)) [
       | below l ↦ within l
       | equal l ↦ beyond (omega arith)
       | above l ↦ beyond (omega arith)
     ]
       where
-        within : k < count b → nth row k ≡ pick (eqb (branch b k .status) 1) (limitOf (g (branch b k)) (b .factor))
+        within : k < count b → nth row k ≡ pick (eqb (branch b k .status) 1) (limitOf (g (branch b k)) (b .factor) percent)
         within l = live .in-service k (omega (arith, h .branches-are)) ∙ rw (h .served-is k, is k) refl
 
-        beyond : count b ≤ k → nth row k ≡ pick (eqb (branch b k .status) 1) (limitOf (g (branch b k)) (b .factor))
+        beyond : count b ≤ k → nth row k ≡ pick (eqb (branch b k .status) 1) (limitOf (g (branch b k)) (b .factor) percent)
         beyond l = live .elsewhere k (omega (arith, h .branches-are)) ∙ rw (past k l) refl
 
-    pub held : Held (caseOf b) (q .wires) (q .served) (q .brief)
+    pub held : percent ≤ 100 → Held (caseOf percent b) (q .wires) (q .served) (q .brief)
     unfolding caseOf
-    held = record {
-      posed = posed b w;
+    held full = record {
+      posed = posed b full w;
       linked = p .wiring .linked;
       buses-are = p .wiring .same-buses ∙ h .buses-are;
       branches-are = p .wiring .same-branches ∙ h .branches-are;
@@ -94,24 +88,25 @@ module _ (b : Book) (w : WellFormed b) (r : CaseRows) (h : RowsRead b r) where
       live-is = fun-ext (row-at (λ x. x .kva2 .0) (r .loss) (q .brief) (p .brief-row) (h .loss-is));
     }
 
-    pub held-live : Held (normal (caseOf b)) (q .wires) (q .served) (q .live)
+    pub held-live : percent ≤ 100 → Held (normal (caseOf percent b)) (q .wires) (q .served) (q .live)
     unfolding caseOf
-    held-live = held-normal (caseOf b) (q .wires) (q .served) (q .brief) (q .live) held
+    held-live full = held-normal (caseOf percent b) (q .wires) (q .served) (q .brief) (q .live) (held full)
         (fun-ext (row-at (λ x. x .kva .0) (r .limit) (q .live) (p .live-row) (h .limit-is)))
 
-    pub gain-is : nth (q .gain) ≡ (λ i. posPart (caseOf b .injection i))
+    pub gain-is : nth (q .gain) ≡ (λ i. posPart (caseOf percent b .injection i))
     unfolding caseOf
     gain-is = ap nth (p .same-gain) ∙ fun-ext (h .gain-is)
 
-    pub load-is : nth (q .load) ≡ (λ i. negPart (caseOf b .injection i))
+    pub load-is : nth (q .load) ≡ (λ i. negPart (caseOf percent b .injection i))
     unfolding caseOf
     load-is = ap nth (p .same-load) ∙ fun-ext (h .load-is)
 
 -- Gains and loads are small at every bus, and past the last one.
-pub small-injections : (b : Book) → WellFormed b → (gain load : List ℕ) → nth gain ≡ (λ i. posPart (caseOf b .injection i)) → nth load ≡ (λ i. negPart (caseOf b .injection i))
+pub small-injections : (percent : ℕ) (b : Book) → WellFormed b → (gain load : List ℕ) → nth gain ≡ (λ i. posPart (caseOf percent b .injection i))
+    → nth load ≡ (λ i. negPart (caseOf percent b .injection i))
     → (i : ℕ) → (nth gain i ≤ 2000000) × (nth load i ≤ 2000000)
 unfolding caseOf
-small-injections b w gain load g l i =
+small-injections percent b w gain load g l i =
     let gi : nth gain i ≡ posPart (injection b i) = ap (λ (m : ℕ → ℕ). m i) g in
     let li : nth load i ≡ negPart (injection b i) = ap (λ (m : ℕ → ℕ). m i) l in
     elim (side i (buses b)) [

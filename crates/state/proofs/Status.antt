@@ -1,4 +1,4 @@
--- The book with one status bit set or cleared makes the case with that branch in or out of service.
+-- The book with one status bit set or cleared makes the case with that branch in or out of service, at every percentage.
 use mathlib.Core.Path.{_≡_, refl, sym, ap, _∙_, fun-ext}
 use mathlib.Core.Bool.{true, cond}
 use mathlib.Core.List.{List}
@@ -48,15 +48,15 @@ module _ (B : Book) (k v : ℕ) (there : k < count B) where
       go (yes e) = rw (e, eq-eqb k k refl) (ap (λ (x : Branch). eqb (x .status) 1) (getD-set-same (B .branches) k (restated (branch B k) v) noBranch there))
       go (no n) = rw (ne-eqb j k n) (ap (λ (x : Branch). eqb (x .status) 1) (getD-set-other (B .branches) k j (restated (branch B k) v) noBranch n))
 
-  case-restatus : caseOf restatus ≡ withStatus (caseOf B) k (eqb v 1)
+  case-restatus : (percent : ℕ) → caseOf percent restatus ≡ withStatus (caseOf percent B) k (eqb v 1)
   unfolding caseOf
-  case-restatus =
+  case-restatus percent =
       let b = length-set (B .branches) k (restated (branch B k) v) in
       let f = fun-ext (same-of (λ x. x .first) (λ x. refl)) in
       let g = fun-ext (same-of (λ x. x .second) (λ x. refl)) in
       let s = fun-ext served-of in
-      let l = fun-ext (same-of (λ x. limitOf (x .kva .0) (B .factor)) (λ x. refl)) in
-      let m = fun-ext (same-of (λ x. limitOf (x .kva2 .0) (B .factor)) (λ x. refl)) in
+      let l = fun-ext (same-of (λ x. limitOf (x .kva .0) (B .factor) percent) (λ x. refl)) in
+      let m = fun-ext (same-of (λ x. limitOf (x .kva2 .0) (B .factor) percent) (λ x. refl)) in
       λ i. record {
         buses = book.buses B;
         branches = b i;
@@ -68,37 +68,39 @@ module _ (B : Book) (k v : ℕ) (there : k < count B) where
         loss-limit = m i;
       }
 
-pub branches-of : (bs : List ℕ) → caseIn bs .branches ≡ branchesIn bs
+pub branches-of : (percent : ℕ) (bs : List ℕ) → caseIn percent bs .branches ≡ branchesIn bs
 unfolding caseOf
-branches-of bs = count-of bs
+branches-of percent bs = count-of bs
 
 -- Where both figures are equal on every branch, a loss is judged by the normal limits: past the last branch both are 0.
-pub level-of : (b : Book) → ((k : ℕ) → k < count b → branch b k .kva2 ≡ branch b k .kva) → Level (caseOf b)
+pub level-of : (percent : ℕ) (b : Book) → ((k : ℕ) → k < count b → branch b k .kva2 ≡ branch b k .kva) → Level (caseOf percent b)
 unfolding caseOf
-level-of b e = fun-ext (λ k. ap (λ (x : Kva). limitOf (x .0) (b .factor)) (equal k (decLt k (count b))))
+level-of percent b e = fun-ext (λ k. ap (λ (x : Kva). limitOf (x .0) (b .factor) percent) (equal k (decLt k (count b))))
   where
     equal : (k : ℕ) → Dec (k < count b) → branch b k .kva2 ≡ branch b k .kva
     equal k (yes l) = e k l
     equal k (no n) = rw (List·getD-eq-default (b .branches) noBranch {n = k} (omega arith)) refl
 
 -- The bytes with the one status bit made v: an accepted book, and the case with the branch in or out of service.
-pub record Restated (bs : List ℕ) (b v : ℕ) (bs′ : List ℕ) : Type 0 where
+pub record Restated (percent : ℕ) (bs : List ℕ) (b v : ℕ) (bs′ : List ℕ) : Type 0 where
   pub book : checkOf bs′ ≡ Accepted
-  pub case-is : caseIn bs′ ≡ withStatus (caseIn bs) b (eqb v 1)
+  pub case-is : caseIn percent bs′ ≡ withStatus (caseIn percent bs) b (eqb v 1)
   pub count-is : branchesIn bs′ ≡ branchesIn bs
 
-pub restates : (bs : List ℕ) (b v : ℕ) → checkOf bs ≡ Accepted → b < branchesIn bs → v < 2 → Restated bs b v (setBit bs (statusBit bs b) v)
-restates bs b v e l u =
+pub restates : (percent : ℕ) (bs : List ℕ) (b v : ℕ) → checkOf bs ≡ Accepted → b < branchesIn bs → v < 2
+    → Restated percent bs b v (setBit bs (statusBit bs b) v)
+restates percent bs b v e l u =
     let bs′ = setBit bs (statusBit bs b) v in
-    let c : caseIn bs′ ≡ withStatus (caseIn bs) b (eqb v 1) = ap caseOf (status-book bs e b v l u) ∙ case-restatus (bookOf bs) b v (omega (arith, count-of bs)) in
+    let c : caseIn percent bs′ ≡ withStatus (caseIn percent bs) b (eqb v 1) =
+    ap (caseOf percent) (status-book bs e b v l u) ∙ case-restatus (bookOf bs) b v (omega (arith, count-of bs)) percent in
     record {
       book = status-accepted bs e b v l u;
       case-is = c;
-      count-is = sym (branches-of bs′) ∙ ap (λ (C : Case). C .branches) c ∙ branches-of bs;
+      count-is = sym (branches-of percent bs′) ∙ ap (λ (C : Case). C .branches) c ∙ branches-of percent bs;
     }
 
 -- ---- The status of a branch in service.
-module _ (bs : List ℕ) (b : ℕ) (there : b < branchesIn bs) (in-service : caseIn bs .served b ≡ true) where
+module _ (percent : ℕ) (bs : List ℕ) (b : ℕ) (there : b < branchesIn bs) (in-service : caseIn percent bs .served b ≡ true) where
   pub served-status : branchAt bs b .status ≡ 1
   unfolding caseOf
   served-status = ap (λ (x : Branch). x .status) (sym (branch-of bs b there)) ∙ eqb-true _ 1 in-service

@@ -12,6 +12,7 @@ use Rattle.answer.specs.declared.Place.the-variants.{Nowhere}
 use Rattle.answer.specs.declared.Outcome.{Outcome}
 use Rattle.answer.specs.declared.Outcome.the-variants.{Accepted}
 use Rattle.answer.specs.declared.Answer.{Answer}
+use Rattle.quantity.specs.Rating.{percentOut}
 use Rattle.bits.specs.Field.{Bytes}
 use Rattle.layout.specs.Layout.{branchesIn}
 use Rattle.layout.specs.Check.{checkOf}
@@ -19,12 +20,17 @@ use Rattle.verdict.specs.Case.{Case, on, Fits}
 use Rattle.verdict.specs.Excess.{Overload}
 use Rattle.verdict.specs.Update.{Lent}
 
--- Refusals 1 to 7, then 8 where the lent flow or table is too short for the branch count.
-unfoldable pub lentCheck : List ℕ → ℕ → ℕ → Outcome
-lentCheck bs flows bytes = andThen (checkOf bs) (refuseIf (ltb flows (branchesIn bs) || ltb bytes (52 * branchesIn bs)) 8 Accepted)
+-- Refusal 21 before all others, where the percentage is outside 50 to 100; then 1 to 7, then 8 where the lent flow or table is too short for the
+-- branch count.
+unfoldable pub lentCheck : ℕ → List ℕ → ℕ → ℕ → Outcome
+lentCheck percent bs flows bytes =
+    refuseIf (percentOut percent) 21
+    (andThen (checkOf bs)
+    (refuseIf (ltb flows (branchesIn bs) || ltb bytes (52 * branchesIn bs)) 8
+    Accepted))
 
 abbrev pub lentNumbers : List ℕ
-lentNumbers = 1 ∷ 2 ∷ 3 ∷ 4 ∷ 5 ∷ 6 ∷ 7 ∷ 8 ∷ []
+lentNumbers = 21 ∷ 1 ∷ 2 ∷ 3 ∷ 4 ∷ 5 ∷ 6 ∷ 7 ∷ 8 ∷ []
 
 abbrev pub lent : List ℕ → List ℤ → List ℕ → Lent
 lent bs flow table = record { book = bs; flow = flow; table = table }

@@ -71,18 +71,19 @@ pub record Planned (r : CaseRows) (q : Plan) : Type 0 where
   pub same-gain : q .gain ≡ r .gain
   pub same-load : q .load ≡ r .load
 
--- `survey_lent`: an accepted book and a flow long enough for it; whether the flow fits, and the rows of the case with what the flow leaves of the
--- normal limits.
-pub record Surveyable (bs : List ℕ) (flows : ℕ) : Type 0 where
+-- `survey_lent`: a percentage, an accepted book and a flow long enough for it; whether the flow fits, and the rows of the case with what the flow
+-- leaves of the normal limits.
+pub record Surveyable (percent : ℕ) (bs : List ℕ) (flows : ℕ) : Type 0 where
+  pub full-at-most : percent ≤ 100
   pub book : checkOf bs ≡ Accepted
   pub flow-room : branchesIn bs ≤ flows
 
-pub record Surveyed (bs : List ℕ) (flow : List ℤ) (r : Survey) : Type 0 where
-  pub held : Held (caseIn bs) (r .wires) (r .served) (r .brief)
+pub record Surveyed (percent : ℕ) (bs : List ℕ) (flow : List ℤ) (r : Survey) : Type 0 where
+  pub held : Held (caseIn percent bs) (r .wires) (r .served) (r .brief)
   pub branches-are : r .wires .branches ≡ branchesIn bs
-  pub loss-is : (k : ℕ) → kwAt (r .loss) k ≡ caseIn bs .loss-limit k
-  pub fitting : r .fits ≡ true → State (normal (caseIn bs)) (on flow) (r .wires) (r .served) (r .live) (r .latent)
-  pub unfit : r .fits ≡ false → Fits (caseIn bs) (caseIn bs .limit) (on flow) → ⊥
+  pub loss-is : (k : ℕ) → kwAt (r .loss) k ≡ caseIn percent bs .loss-limit k
+  pub fitting : r .fits ≡ true → State (normal (caseIn percent bs)) (on flow) (r .wires) (r .served) (r .live) (r .latent)
+  pub unfit : r .fits ≡ false → Fits (caseIn percent bs) (caseIn percent bs .limit) (on flow) → ⊥
 
 -- `raised_row`: a row of what is latent under the limits in `live`, and the same row under those in `brief`, which are higher.
 pub record RowRaisable (n : ℕ) (live brief row : List ℕ) : Type 0 where

@@ -28,10 +28,13 @@ pub struct Plan {
     pub load: [u32; 128],
 }
 
-// Refusals 1 to 8, for so many lent flow numbers and table bytes.
-pub fn check_lent(book: &[u8], flows: usize, bytes: usize) -> Outcome
-    ensures { λ r. ⌜ r ≡ lentCheck (now (book .entry)) flows bytes ⌝ }
+// Refusal 21, then 1 to 8, for so many lent flow numbers and table bytes.
+pub fn check_lent(percent: u32, book: &[u8], flows: usize, bytes: usize) -> Outcome
+    ensures { λ r. ⌜ r ≡ lentCheck percent (now (book .entry)) flows bytes ⌝ }
 {
+    if quantity::percent_out(percent) {
+        return answer::refuse(21);
+    }
     let h = layout::head_of(book);
     let found = book::check_with(book, h);
     let Outcome::Accepted = found else {
@@ -97,11 +100,11 @@ pub struct Survey {
     pub latent: Latent,
 }
 
-pub fn survey_lent(book: &[u8], flow: &[i32]) -> Survey
-    requires { ⌜ Surveyable (now book) (length (now flow)) ⌝ }
-    ensures { λ r. ⌜ Surveyed (now (book .entry)) (now (flow .entry)) r ⌝ }
+pub fn survey_lent(percent: u32, book: &[u8], flow: &[i32]) -> Survey
+    requires { ⌜ Surveyable percent (now book) (length (now flow)) ⌝ }
+    ensures { λ r. ⌜ Surveyed percent (now (book .entry)) (now (flow .entry)) r ⌝ }
 {
-    let rows = book::rows_of(book);
+    let rows = book::rows_of(percent, book);
     let loss = rows.loss;
     let plan = prepare(rows);
     let wires = plan.wires;

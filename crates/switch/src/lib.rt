@@ -6,8 +6,9 @@ ghost use Rattle.switch.specs.Check.{branchCheck};
 ghost use Rattle.switch.specs.Inside.{With};
 use answer::Outcome;
 
-// Refusals 1 to 8, then 9, then `number` where the branch has that status already.
+// Refusals 21 and 1 to 8, then 9, then `number` where the branch has that status already.
 pub fn check(
+    percent: u32,
     book: &[u8],
     flows: usize,
     bytes: usize,
@@ -15,9 +16,9 @@ pub fn check(
     status: u32,
     number: u8,
 ) -> Outcome
-    ensures { λ r. ⌜ r ≡ branchCheck (now (book .entry)) flows bytes branch status number ⌝ }
+    ensures { λ r. ⌜ r ≡ branchCheck percent (now (book .entry)) flows bytes branch status number ⌝ }
 {
-    let found = state::check_lent(book, flows, bytes);
+    let found = state::check_lent(percent, book, flows, bytes);
     let Outcome::Accepted = found else {
         return found;
     };

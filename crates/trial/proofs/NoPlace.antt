@@ -41,9 +41,9 @@ module _ {letter : ℕ} {rest : List ℕ} {f f′ : List ℤ} {t t′ : List ℕ
       let s = none-set q in
       rw (s .flow-is, s .table-is, s .injections-is, s .branches-is) at q
 
-  pub call-after : {z n r : ℕ} {book : List ℕ} {i″ : List ℤ} {b″ : List ℕ} {after : Lent} → z ≡ 0
-      → PlacesSet letter rest f t i b f′ t′ i′ b′ z → CallRun letter rest n (lent book f′ t′) after i′ i″ b′ b″ r
-      → CallRun letter rest n (lent book f t) after i i″ b b″ r
+  pub call-after : {percent z n r : ℕ} {book : List ℕ} {i″ : List ℤ} {b″ : List ℕ} {after : Lent} → z ≡ 0
+      → PlacesSet letter rest f t i b f′ t′ i′ b′ z → CallRun letter percent rest n (lent book f′ t′) after i′ i″ b′ b″ r
+      → CallRun letter percent rest n (lent book f t) after i i″ b b″ r
   call-after e p c =
       let q : PlacesSet letter rest f t i b f′ t′ i′ b′ 0 = rw e at p in
       let s = none-set q in

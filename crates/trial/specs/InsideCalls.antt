@@ -22,7 +22,7 @@ pub record Sized (book flow table injections branches : ℕ) : Type 0 where
   pub injections-is : injections ≡ 128
   pub branches-is : branches ≡ 1280
 
--- ---- `S`, `O` and `K`.
+-- ---- `S`, `O` and `K`, at the percentage that stands.
 -- The first n bytes of the book space, a numbers of the flow space and b bytes of the table space, and what stands beyond them.
 abbrev pub first : ℕ → ℕ → ℕ → Lent → Lent
 first n a b l = lent (take n (l .book)) (take a (l .flow)) (take b (l .table))
@@ -40,9 +40,9 @@ pub record Called (promise : Lent → Lent → Answer → Type 0) (n a b : ℕ) 
 abbrev pub partsGood : List ℕ → Lent → Bool
 partsGood rest l = good rest 1 (length (l .flow)) && good rest 3 (length (l .table))
 
-abbrev pub ScreenRun : List ℕ → ℕ → Lent → Lent → ℕ → Type 0
-ScreenRun rest bytes before after r =
-    Runs (partsGood rest before) 5 (Called ScreenEnds bytes (twoAt rest 1) (twoAt rest 3) before after) (after ≡ before) r
+abbrev pub ScreenRun : ℕ → List ℕ → ℕ → Lent → Lent → ℕ → Type 0
+ScreenRun percent rest bytes before after r =
+    Runs (partsGood rest before) 5 (Called (ScreenEnds percent) bytes (twoAt rest 1) (twoAt rest 3) before after) (after ≡ before) r
 
 -- A call on one branch. Any branch may be named.
 abbrev pub BranchRun : (ℕ → Lent → Lent → Answer → Type 0) → List ℕ → ℕ → Lent → Lent → ℕ → Type 0
@@ -50,27 +50,27 @@ BranchRun ends rest bytes before after r =
     Runs (partsGood rest before && good rest 5 65535) 7
     (Called (ends (twoAt rest 5)) bytes (twoAt rest 1) (twoAt rest 3) before after) (after ≡ before) r
 
-abbrev pub OutRun : List ℕ → ℕ → Lent → Lent → ℕ → Type 0
-OutRun = BranchRun TakeEnds
+abbrev pub OutRun : ℕ → List ℕ → ℕ → Lent → Lent → ℕ → Type 0
+OutRun percent = BranchRun (TakeEnds percent)
 
-abbrev pub BackRun : List ℕ → ℕ → Lent → Lent → ℕ → Type 0
-BackRun = BranchRun BackEnds
+abbrev pub BackRun : ℕ → List ℕ → ℕ → Lent → Lent → ℕ → Type 0
+BackRun percent = BranchRun (BackEnds percent)
 
 -- ---- Each letter makes its own call, `D` changes nothing, and another letter takes no byte. The spaces that a call isn't lent are as they were.
-pub data CallRun (letter : ℕ) (rest : List ℕ) (bytes : ℕ) (before after : Lent)
+pub data CallRun (letter percent : ℕ) (rest : List ℕ) (bytes : ℕ) (before after : Lent)
     (injections injections′ : List ℤ) (branches branches′ : List ℕ) (r : ℕ) : Type 0 where
-  screens : letter ≡ 83 → ScreenRun rest bytes before after r → injections′ ≡ injections → branches′ ≡ branches
-      → CallRun letter rest bytes before after injections injections′ branches branches′ r
-  takes-out : letter ≡ 79 → OutRun rest bytes before after r → injections′ ≡ injections → branches′ ≡ branches
-      → CallRun letter rest bytes before after injections injections′ branches branches′ r
-  brings-back : letter ≡ 75 → BackRun rest bytes before after r → injections′ ≡ injections → branches′ ≡ branches
-      → CallRun letter rest bytes before after injections injections′ branches branches′ r
+  screens : letter ≡ 83 → ScreenRun percent rest bytes before after r → injections′ ≡ injections → branches′ ≡ branches
+      → CallRun letter percent rest bytes before after injections injections′ branches branches′ r
+  takes-out : letter ≡ 79 → OutRun percent rest bytes before after r → injections′ ≡ injections → branches′ ≡ branches
+      → CallRun letter percent rest bytes before after injections injections′ branches branches′ r
+  brings-back : letter ≡ 75 → BackRun percent rest bytes before after r → injections′ ≡ injections → branches′ ≡ branches
+      → CallRun letter percent rest bytes before after injections injections′ branches branches′ r
   reads : letter ≡ 82 → ReadRun rest (take bytes (before .book)) injections injections′ branches branches′ r → after ≡ before
-      → CallRun letter rest bytes before after injections injections′ branches branches′ r
+      → CallRun letter percent rest bytes before after injections injections′ branches branches′ r
   meters : letter ≡ 77 → MetersRun rest injections injections′ r → after ≡ before → branches′ ≡ branches
-      → CallRun letter rest bytes before after injections injections′ branches branches′ r
+      → CallRun letter percent rest bytes before after injections injections′ branches branches′ r
   dumps : letter ≡ 68 → r ≡ 1 → after ≡ before → injections′ ≡ injections → branches′ ≡ branches
-      → CallRun letter rest bytes before after injections injections′ branches branches′ r
+      → CallRun letter percent rest bytes before after injections injections′ branches branches′ r
   none : (letter ≡ 83 → ⊥) → (letter ≡ 79 → ⊥) → (letter ≡ 75 → ⊥) → (letter ≡ 82 → ⊥) → (letter ≡ 77 → ⊥) → (letter ≡ 68 → ⊥) → r ≡ 0
       → after ≡ before → injections′ ≡ injections → branches′ ≡ branches
-      → CallRun letter rest bytes before after injections injections′ branches branches′ r
+      → CallRun letter percent rest bytes before after injections injections′ branches branches′ r

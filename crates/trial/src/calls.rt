@@ -13,9 +13,16 @@ use tables::run_meters;
 use tables::run_read;
 
 // `S`.
-fn run_screen(rest: &[u8], book: &[u8], bytes: usize, flow: &mut [i32], table: &mut [u8]) -> usize
+fn run_screen(
+    rest: &[u8],
+    percent: u32,
+    book: &[u8],
+    bytes: usize,
+    flow: &mut [i32],
+    table: &mut [u8],
+) -> usize
     requires { ⌜ (0 < length (now rest)) × (bytes ≤ length (now book)) ⌝ }
-    ensures { λ r. ⌜ ScreenRun (now (rest .entry)) bytes (lent (now (book .entry)) (now (flow .entry)) (now (table .entry))) (lent (now (book .entry)) (now (flow .exit)) (now (table .exit))) r ⌝ }
+    ensures { λ r. ⌜ ScreenRun percent (now (rest .entry)) bytes (lent (now (book .entry)) (now (flow .entry)) (now (table .entry))) (lent (now (book .entry)) (now (flow .exit)) (now (table .exit))) r ⌝ }
     ensures { λ r. ⌜ r ≤ length (now (rest .entry)) ⌝ }
 {
     let a = number_at(rest, 1, flow.len());
@@ -25,15 +32,27 @@ fn run_screen(rest: &[u8], book: &[u8], bytes: usize, flow: &mut [i32], table: &
     }
     let flows = a.value;
     let records = b.value;
-    let answer = screen::screen(&book[0..bytes], &mut flow[0..flows], &mut table[0..records]);
+    let answer = screen::screen(
+        percent,
+        &book[0..bytes],
+        &mut flow[0..flows],
+        &mut table[0..records],
+    );
     answer_line(b"screen", answer);
     b.end
 }
 
 // `O`.
-fn run_out(rest: &[u8], book: &mut [u8], bytes: usize, flow: &mut [i32], table: &mut [u8]) -> usize
+fn run_out(
+    rest: &[u8],
+    percent: u32,
+    book: &mut [u8],
+    bytes: usize,
+    flow: &mut [i32],
+    table: &mut [u8],
+) -> usize
     requires { ⌜ (0 < length (now rest)) × (bytes ≤ length (now book)) ⌝ }
-    ensures { λ r. ⌜ OutRun (now (rest .entry)) bytes (lent (now (book .entry)) (now (flow .entry)) (now (table .entry))) (lent (now (book .exit)) (now (flow .exit)) (now (table .exit))) r ⌝ }
+    ensures { λ r. ⌜ OutRun percent (now (rest .entry)) bytes (lent (now (book .entry)) (now (flow .entry)) (now (table .entry))) (lent (now (book .exit)) (now (flow .exit)) (now (table .exit))) r ⌝ }
     ensures { λ r. ⌜ r ≤ length (now (rest .entry)) ⌝ }
 {
     let a = number_at(rest, 1, flow.len());
@@ -45,6 +64,7 @@ fn run_out(rest: &[u8], book: &mut [u8], bytes: usize, flow: &mut [i32], table: 
     let flows = a.value;
     let records = b.value;
     let answer = outage::take_out(
+        percent,
         &mut book[0..bytes],
         &mut flow[0..flows],
         &mut table[0..records],
@@ -55,9 +75,16 @@ fn run_out(rest: &[u8], book: &mut [u8], bytes: usize, flow: &mut [i32], table: 
 }
 
 // `K`.
-fn run_back(rest: &[u8], book: &mut [u8], bytes: usize, flow: &[i32], table: &mut [u8]) -> usize
+fn run_back(
+    rest: &[u8],
+    percent: u32,
+    book: &mut [u8],
+    bytes: usize,
+    flow: &[i32],
+    table: &mut [u8],
+) -> usize
     requires { ⌜ (0 < length (now rest)) × (bytes ≤ length (now book)) ⌝ }
-    ensures { λ r. ⌜ BackRun (now (rest .entry)) bytes (lent (now (book .entry)) (now (flow .entry)) (now (table .entry))) (lent (now (book .exit)) (now (flow .entry)) (now (table .exit))) r ⌝ }
+    ensures { λ r. ⌜ BackRun percent (now (rest .entry)) bytes (lent (now (book .entry)) (now (flow .entry)) (now (table .entry))) (lent (now (book .exit)) (now (flow .entry)) (now (table .exit))) r ⌝ }
     ensures { λ r. ⌜ r ≤ length (now (rest .entry)) ⌝ }
 {
     let a = number_at(rest, 1, flow.len());
@@ -69,6 +96,7 @@ fn run_back(rest: &[u8], book: &mut [u8], bytes: usize, flow: &[i32], table: &mu
     let flows = a.value;
     let records = b.value;
     let answer = restore::bring_back(
+        percent,
         &mut book[0..bytes],
         &flow[0..flows],
         &mut table[0..records],
@@ -103,6 +131,7 @@ fn dump(book: &[u8], bytes: usize, flow: &[i32], table: &[u8])
 pub fn run_call(
     rest: &[u8],
     letter: u8,
+    percent: u32,
     book: &mut [u8],
     bytes: usize,
     flow: &mut [i32],
@@ -111,17 +140,17 @@ pub fn run_call(
     branches: &mut [u32],
 ) -> usize
     requires { ⌜ (0 < length (now rest)) × (bytes ≤ 2100) × Sized (length (now book)) (length (now flow)) (length (now table)) (length (now injections)) (length (now branches)) ⌝ }
-    ensures { λ r. ⌜ CallRun letter (now (rest .entry)) bytes (lent (now (book .entry)) (now (flow .entry)) (now (table .entry))) (lent (now (book .exit)) (now (flow .exit)) (now (table .exit))) (now (injections .entry)) (now (injections .exit)) (now (branches .entry)) (now (branches .exit)) r ⌝ }
+    ensures { λ r. ⌜ CallRun letter percent (now (rest .entry)) bytes (lent (now (book .entry)) (now (flow .entry)) (now (table .entry))) (lent (now (book .exit)) (now (flow .exit)) (now (table .exit))) (now (injections .entry)) (now (injections .exit)) (now (branches .entry)) (now (branches .exit)) r ⌝ }
     ensures { λ r. ⌜ r ≤ length (now (rest .entry)) ⌝ }
 {
     if letter == b'S' {
-        return run_screen(rest, book, bytes, flow, table);
+        return run_screen(rest, percent, book, bytes, flow, table);
     }
     if letter == b'O' {
-        return run_out(rest, book, bytes, flow, table);
+        return run_out(rest, percent, book, bytes, flow, table);
     }
     if letter == b'K' {
-        return run_back(rest, book, bytes, flow, table);
+        return run_back(rest, percent, book, bytes, flow, table);
     }
     if letter == b'R' {
         return run_read(rest, book, bytes, injections, branches);

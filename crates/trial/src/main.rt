@@ -2,7 +2,7 @@
 ghost use Prim.Native.Nat.{_<_, _≤_};
 ghost use lib.ListN.{length};
 ghost use Rattle.state.specs.Call.{lent};
-ghost use Rattle.trial.specs.Inside.{Refilled, CommandRun};
+ghost use Rattle.trial.specs.Inside.{Refilled, CommandRun, TurnRun};
 
 mod calls;
 
@@ -12,6 +12,7 @@ use libc::STDIN_FILENO;
 use libc::STDOUT_FILENO;
 use spaces::Next;
 use spaces::set_book;
+use spaces::set_percent;
 use spaces::set_place;
 use spaces::spoil;
 use tables::run_move;
@@ -54,6 +55,7 @@ fn ready(input: &mut [u8], at: usize, end: usize) -> Window
 // One command, at the start of the rest of the stream.
 fn run(
     rest: &[u8],
+    percent: u32,
     book: &mut [u8; 2100],
     bytes: usize,
     flow: &mut [i32; 256],
@@ -63,7 +65,7 @@ fn run(
     shelf: &mut [u8; 2100],
 ) -> Next
     requires { ⌜ (0 < length (now rest)) × (bytes ≤ 2100) ⌝ }
-    ensures { λ r. ⌜ CommandRun (now (rest .entry)) bytes (lent (now (book .entry)) (now (flow .entry)) (now (table .entry))) (lent (now (book .exit)) (now (flow .exit)) (now (table .exit))) (now (injections .entry)) (now (injections .exit)) (now (branches .entry)) (now (branches .exit)) (now (shelf .entry)) (now (shelf .exit)) r ⌝ }
+    ensures { λ r. ⌜ CommandRun percent (now (rest .entry)) bytes (lent (now (book .entry)) (now (flow .entry)) (now (table .entry))) (lent (now (book .exit)) (now (flow .exit)) (now (table .exit))) (now (injections .entry)) (now (injections .exit)) (now (branches .entry)) (now (branches .exit)) (now (shelf .entry)) (now (shelf .exit)) r ⌝ }
     ensures { λ r. ⌜ (r .taken ≤ length (now (rest .entry))) × (r .bytes ≤ 2100) ⌝ }
 {
     let letter = rest[0];
@@ -88,8 +90,65 @@ fn run(
     if 0 < set {
         return Next { taken: set, bytes };
     }
-    let taken = run_call(rest, letter, book, bytes, flow, table, injections, branches);
+    let taken = run_call(
+        rest,
+        letter,
+        percent,
+        book,
+        bytes,
+        flow,
+        table,
+        injections,
+        branches,
+    );
     Next { taken, bytes }
+}
+
+// What a command took and left, and the percentage of those after it.
+struct Turn {
+    next: Next,
+    percent: u32,
+}
+
+// `Y`, or another command at the percentage that stands.
+fn run_turn(
+    rest: &[u8],
+    percent: u32,
+    book: &mut [u8; 2100],
+    bytes: usize,
+    flow: &mut [i32; 256],
+    table: &mut [u8; 13312],
+    injections: &mut [i32; 128],
+    branches: &mut [u32; 1280],
+    shelf: &mut [u8; 2100],
+) -> Turn
+    requires { ⌜ (0 < length (now rest)) × (bytes ≤ 2100) ⌝ }
+    ensures { λ r. ⌜ TurnRun percent (now (rest .entry)) bytes (lent (now (book .entry)) (now (flow .entry)) (now (table .entry))) (lent (now (book .exit)) (now (flow .exit)) (now (table .exit))) (now (injections .entry)) (now (injections .exit)) (now (branches .entry)) (now (branches .exit)) (now (shelf .entry)) (now (shelf .exit)) r ⌝ }
+    ensures { λ r. ⌜ (r .next .taken ≤ length (now (rest .entry))) × (r .next .bytes ≤ 2100) ⌝ }
+{
+    if rest[0] == b'Y' {
+        let rated = set_percent(rest, percent);
+        let next = Next {
+            taken: rated.taken,
+            bytes,
+        };
+        return Turn {
+            next,
+            percent: rated.percent,
+        };
+    }
+    let next = run(
+        rest,
+        percent,
+        book,
+        bytes,
+        flow,
+        table,
+        injections,
+        branches,
+        shelf,
+    );
+    Turn { next, percent }
 }
 
 // A proved loop has to end, and nothing says that a stream does: the turns are more than any stream has commands.
@@ -102,6 +161,7 @@ fn main() {
     let mut branches = [0u32; 1280];
     let mut shelf = [0u8; 2100];
     let mut bytes: usize = 0;
+    let mut percent: u32 = 100;
     let mut at: usize = 0;
     let mut end: usize = 0;
     let mut turns = u64::MAX;
@@ -112,8 +172,9 @@ fn main() {
         if at == end {
             return;
         }
-        let next = run(
+        let turn = run_turn(
             &input[at..end],
+            percent,
             &mut book,
             bytes,
             &mut flow,
@@ -122,12 +183,14 @@ fn main() {
             &mut branches,
             &mut shelf,
         );
+        let next = turn.next;
         if next.taken == 0 {
             io::write_all(STDOUT_FILENO, b"bad command\n");
             return;
         }
         at += next.taken;
         bytes = next.bytes;
+        percent = turn.percent;
         turns -= 1;
     }
 }

@@ -6,15 +6,16 @@ use crate::definitions::book::Book;
 use crate::definitions::branch::Branch;
 use crate::definitions::form::{Form, LARGEST};
 use crate::definitions::limits::limit_in_kw;
+use crate::definitions::percentage::{Percentage, NAMEPLATE};
 
-/// A book with these counts whose base excess is 0.
+/// A book with these counts whose base excess is 0 at 100 percent.
 pub fn served(random: &mut Random, buses: usize, count: usize) -> Book {
-    served_with_flow(random, buses, count).0
+    served_with_flow(random, NAMEPLATE, buses, count).0
 }
 
-/// A book and a random flow that fits it.
-pub fn served_with_flow(random: &mut Random, buses: usize, count: usize) -> (Book, Vec<i64>) {
-    let plan = Plan::any(random);
+/// A book and a random flow that fits it at a percentage.
+pub fn served_with_flow(random: &mut Random, percentage: Percentage, buses: usize, count: usize) -> (Book, Vec<i64>) {
+    let plan = Plan { percentage, ..Plan::any(random) };
     let (mut book, flow) = planned(random, &plan, buses, count);
     random_forms::either(random, &mut book);
     (book, flow)
@@ -33,6 +34,8 @@ pub struct Plan {
     pub shape: usize,
     /// The most of its limit that a branch carries, in hundredths.
     pub share: i64,
+    /// The percentage at which its flow is to fit.
+    pub percentage: Percentage,
 }
 
 impl Plan {
@@ -45,6 +48,7 @@ impl Plan {
             islands: *random.pick(&[1, 1, 1, 2, 3]),
             shape: random.below(5),
             share: *random.pick(&[10, 30, 60, 100]),
+            percentage: NAMEPLATE,
         }
     }
 }
@@ -87,7 +91,7 @@ fn injections(random: &mut Random, buses: usize, branches: &[Branch], plan: &Pla
     let mut flow: Vec<i64> = branches
         .iter()
         .map(|branch| {
-            let most = (limit_in_kw(branch.kva, plan.factor) * plan.share + 99) / 100;
+            let most = (limit_in_kw(branch.kva, plan.factor, plan.percentage) * plan.share + 99) / 100;
             if branch.served {
                 random.between(-most, most)
             } else {

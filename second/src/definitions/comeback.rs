@@ -6,9 +6,9 @@ use crate::definitions::network::{Network, Verdict};
 use crate::definitions::record::{self, SIZE};
 use crate::definitions::switching::{self, Judged, Lent, Way};
 
-/// The network before an accepted call; else the refusal due: 1 to 8, then 9, then 17, then 11. The branch is out of
-/// service in the book lent, so a flow with anything but 0 on it does not fit. There is no 12: a flow that fits without the
-/// branch fits with it.
+/// The network before an accepted call; else the refusal due: 21, 1 to 8, then 9, then 17, then 11. The branch is out
+/// of service in the book lent, so a flow with anything but 0 on it does not fit. There is no 12: a flow that fits without
+/// the branch fits with it.
 pub fn allowed(lent: &Lent, branch: usize) -> Result<Network, Answer> {
     switching::fitting(Way::Back, lent, branch)
 }

@@ -1,4 +1,6 @@
-//! The two limits of a branch in kW (document 02, W2): how each comes from its kVA figure, and which of them counts where.
+//! The two limits of a branch in kW (document 02, W2 and W8): how each comes from its kVA figure, and which of them counts where.
+
+use crate::definitions::percentage::Percentage;
 
 /// The normal limit comes from the first kVA figure, the second from the second.
 ///
@@ -11,7 +13,8 @@ pub enum Limits {
     Second,
 }
 
-/// kVA times power factor divided by 1000, rounded down: the one step from kVA to kW.
-pub fn limit_in_kw(kva: u32, factor: u32) -> i64 {
-    kva as i64 * factor as i64 / 1000
+/// "kVA times power factor times percentage, divided by 100,000, rounded down once": the one step from kVA to kW, for both ratings.
+/// At 100 it is document 01's step.
+pub fn limit_in_kw(kva: u32, factor: u32, percentage: Percentage) -> i64 {
+    kva as i64 * factor as i64 * percentage.0 as i64 / 100_000
 }

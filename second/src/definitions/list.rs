@@ -2,12 +2,13 @@
 
 use crate::definitions::answer::counted;
 use crate::definitions::network::{Network, Verdict};
+use crate::definitions::percentage::NAMEPLATE;
 use crate::definitions::place::printed;
 use crate::definitions::screen;
 
 /// The whole output for an input of any length.
 pub fn list(bytes: &[u8]) -> String {
-    match screen::screened(bytes, usize::MAX, usize::MAX) {
+    match screen::screened(NAMEPLATE, bytes, usize::MAX, usize::MAX) {
         Err(answer) if answer.number == 12 => format!("refused 12 {}{}\n", answer.shortage, counted(answer.group)),
         Err(answer) => format!("refused {}{}\n", answer.number, printed(answer.place)),
         Ok(network) => accepted(&network),

@@ -3,6 +3,7 @@
 use crate::definitions::book::Book;
 use crate::definitions::branch::Branch;
 use crate::definitions::limits::{limit_in_kw, Limits};
+use crate::definitions::percentage::Percentage;
 
 /// A group of buses: bus k is bit k.
 pub type Group = u128;
@@ -54,13 +55,13 @@ pub fn holds(group: Group, bus: usize) -> bool {
 }
 
 impl Network {
-    /// The network of a book of either form; in an old one the two limits of a branch are equal.
-    pub fn of(book: &Book) -> Network {
+    /// The network of a book of either form at a percentage; in an old one the two limits of a branch are equal.
+    pub fn of(book: &Book, percentage: Percentage) -> Network {
         let line = |branch: &Branch| Line {
             first: branch.first,
             second: branch.second,
-            normal_limit: limit_in_kw(branch.kva, book.factor),
-            second_limit: limit_in_kw(branch.second_kva, book.factor),
+            normal_limit: limit_in_kw(branch.kva, book.factor, percentage),
+            second_limit: limit_in_kw(branch.second_kva, book.factor, percentage),
             served: branch.served,
         };
         Network { injections: book.injections.clone(), lines: book.branches.iter().map(line).collect() }

@@ -8,8 +8,8 @@ use crate::definitions::record;
 use crate::definitions::reroutes;
 use crate::definitions::switching::{self, Judged, Lent, Way};
 
-/// The network before an accepted call; else the refusal due: 1 to 11 in order, then 12 by the changed book's base excess,
-/// whatever the record shows: this is by the normal limits, and the record by the second.
+/// The network before an accepted call; else the refusal due: 21, 1 to 11 in order, then 12 by the changed book's base
+/// excess, whatever the record shows: this is by the normal limits, and the record by the second.
 pub fn allowed(lent: &Lent, branch: usize) -> Result<Network, Answer> {
     let network = switching::fitting(Way::Out, lent, branch)?;
     let excess = cuts::base_excess(&network.without(branch));

@@ -5,11 +5,14 @@ use crate::definitions::book::{self, Book};
 use crate::definitions::cuts::{self, Cutter};
 use crate::definitions::limits::Limits;
 use crate::definitions::network::{Network, Verdict};
+use crate::definitions::percentage::Percentage;
 use crate::definitions::record;
 use crate::definitions::reroutes::{self, Exactly};
 
-/// The book, if it can be read and the lent flow and table are long enough for it; else refusals 1 to 8, with the place of 4 and 5.
-pub fn opened(bytes: &[u8], flow_room: usize, table_room: usize) -> Result<Book, Answer> {
+/// The book, if the percentage is in range, the book can be read and the lent flow and table are long enough for it; else 21, and
+/// then refusals 1 to 8, with the place of 4 and 5.
+pub fn opened(percentage: Percentage, bytes: &[u8], flow_room: usize, table_room: usize) -> Result<Book, Answer> {
+    percentage.tested()?;
     let book = book::unpack(bytes)?;
     let count = book.branches.len();
     if flow_room < count || table_room < record::SIZE * count {
@@ -18,9 +21,9 @@ pub fn opened(bytes: &[u8], flow_room: usize, table_room: usize) -> Result<Book,
     Ok(book)
 }
 
-/// The network of a book whose screen is accepted; else the refusal due.
-pub fn screened(bytes: &[u8], flow_room: usize, table_room: usize) -> Result<Network, Answer> {
-    let network = Network::of(&opened(bytes, flow_room, table_room)?);
+/// The network of a book whose screen at a percentage is accepted; else the refusal due.
+pub fn screened(percentage: Percentage, bytes: &[u8], flow_room: usize, table_room: usize) -> Result<Network, Answer> {
+    let network = Network::of(&opened(percentage, bytes, flow_room, table_room)?, percentage);
     let excess = cuts::base_excess(&network);
     if excess.amount > 0 {
         Err(Answer::overloaded(excess))
@@ -52,10 +55,10 @@ pub fn record_holds(cutter: &mut Cutter, flow: &[i64], branch: usize, bytes: &[u
     }
 }
 
-/// Whether a flow fits and every record of a table is true of it; a reroute that stayed undecided counts as true.
+/// Whether a flow fits and every record of a table is true of it; a table with a reroute that stayed undecided isn't known to be.
 pub fn table_holds(network: &Network, flow: &[i64], table: &[u8]) -> bool {
     let mut cutter = Cutter::new(network);
-    let holds = |branch| record_holds(&mut cutter, flow, branch, record::stretch(table, branch)).is_ok();
+    let holds = |branch| record_holds(&mut cutter, flow, branch, record::stretch(table, branch)) == Ok(true);
     network.fits(flow) && (0..flow.len()).all(holds)
 }
 

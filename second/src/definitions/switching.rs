@@ -4,6 +4,7 @@
 use crate::definitions::answer::Answer;
 use crate::definitions::cuts::Cutter;
 use crate::definitions::network::Network;
+use crate::definitions::percentage::Percentage;
 use crate::definitions::record::{self, SIZE};
 use crate::definitions::screen;
 
@@ -37,21 +38,24 @@ impl Way {
     }
 }
 
-/// What a call is lent: the book's bytes, the flow numbers and the table bytes, as long as they were lent.
+/// What a call is given, the percentage, and what it is lent: the book's bytes, the flow numbers and the table bytes, as long as
+/// they were lent.
 pub struct Lent<'a> {
+    pub percentage: Percentage,
     pub book: &'a [u8],
     pub flow: &'a [i64],
     pub table: &'a [u8],
 }
 
-/// The network of the book lent, where its branch can be switched; else the first of 1 to 8, 9, and 10 or 17.
+/// The network of the book lent, at the percentage of the call, where its branch can be switched; else the first of 21, 1 to 8, 9,
+/// and 10 or 17.
 pub fn switchable(way: Way, lent: &Lent, branch: usize) -> Result<Network, Answer> {
-    let book = screen::opened(lent.book, lent.flow.len(), lent.table.len())?;
+    let book = screen::opened(lent.percentage, lent.book, lent.flow.len(), lent.table.len())?;
     let named = book.branches.get(branch).ok_or(Answer::refused(9))?;
     if named.served == way.serves() {
         return Err(Answer::refused(way.already()));
     }
-    Ok(Network::of(&book))
+    Ok(Network::of(&book, lent.percentage))
 }
 
 /// The same where, besides, the flow lent fits the book as it is lent; else 11 comes after those.

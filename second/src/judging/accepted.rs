@@ -8,10 +8,12 @@ use crate::definitions::outage;
 use crate::definitions::record::{self, SIZE};
 use crate::definitions::screen;
 use crate::definitions::switching::{Judged, Way};
+use crate::judging::percentages;
 use crate::judging::ratings;
 use crate::judging::run::{self, Run};
 use crate::judging::tally::Tally;
 use crate::trial::spaces::Spaces;
+use crate::trial::stream::Command;
 
 /// An accepted switching call: the network before it, how much flow and table it was lent, and its branch.
 pub struct Switch {
@@ -22,8 +24,9 @@ pub struct Switch {
     pub branch: usize,
 }
 
-/// The spaces before an accepted call and as it left them, and the run that it belongs to.
+/// An accepted call, the spaces before it and as it left them, and the run that it belongs to.
 pub struct Call<'a> {
+    pub command: &'a Command,
     pub before: &'a Spaces,
     pub left: &'a Spaces,
     pub run: &'a Run,
@@ -39,14 +42,16 @@ impl Call<'_> {
         }
         self.judge_records(network, 0..count)?;
         self.tally.accepted("screen", network);
+        percentages::shown(self.tally, self.command, self.before, self.left, &vec![true; count]);
         Ok(())
     }
 
-    pub fn judge_switch(&mut self, switch: &Switch) -> Result<(), String> {
+    /// Answers whether the table lent was true at the percentage of the call; if so, it was judged that it still is.
+    pub fn judge_switch(&mut self, switch: &Switch) -> Result<bool, String> {
         let Switch { way, network, flow, table, branch } = switch;
         let count = network.lines.len();
         self.beyond_untouched(count)?;
-        let start = self.run.before_out(*branch).filter(|_| *way == Way::Back);
+        let start = self.run.before_out(*branch, self.before.percentage).filter(|_| *way == Way::Back);
         start.map_or(Ok(()), |start| run::undone(start, self.left, count))?;
         let lent = self.before.lent(*flow, *table);
         let judged = match way {
@@ -57,15 +62,18 @@ impl Call<'_> {
             return Err(fault.clone());
         }
         let changed = network.with_status(*branch, way.serves());
+        let held = self.run.holds(network, self.before);
         match way {
-            Way::Out => self.count_out(network, *branch, &judged)?,
-            Way::Back => self.count_back(network, &changed, *branch, &judged),
+            Way::Out => self.count_out(network, *branch, &judged, held)?,
+            Way::Back => self.count_back(network, &changed, *branch, &judged, held),
         }
-        if self.run.table_true {
+        percentages::switched(self.tally, self.run, *way, network, self.before, held);
+        percentages::shown(self.tally, self.command, self.before, self.left, &judged.anew);
+        if held {
             // A true table stays true: the records kept are judged as well.
             self.judge_records(&changed, (0..count).filter(|&k| !judged.anew[k]))?;
         }
-        Ok(())
+        Ok(held)
     }
 
     fn beyond_untouched(&self, count: usize) -> Result<(), String> {
@@ -94,11 +102,11 @@ impl Call<'_> {
         Ok(())
     }
 
-    fn count_out(&mut self, network: &Network, branch: usize, judged: &Judged) -> Result<(), String> {
+    fn count_out(&mut self, network: &Network, branch: usize, judged: &Judged, held: bool) -> Result<(), String> {
         let count = network.lines.len();
         let own = record::stretch(&self.before.table, branch);
-        let untrue = !self.run.holds(network, self.before);
-        if !untrue {
+        let untrue = !held;
+        if held {
             ratings::agrees(network, own, Answer::ACCEPTED)?;
             ratings::promised(network, judged.fell_back)?;
         }
@@ -124,25 +132,26 @@ impl Call<'_> {
         Ok(())
     }
 
-    fn count_back(&mut self, network: &Network, changed: &Network, branch: usize, judged: &Judged) {
+    fn count_back(&mut self, network: &Network, changed: &Network, branch: usize, judged: &Judged, held: bool) {
         let old = |k: usize| record::stretch(&self.before.table, k);
         let kept: Vec<usize> = (0..network.lines.len()).filter(|&k| !judged.anew[k]).collect();
         let turned = (0..network.lines.len()).filter(|&k| old(k)[0] == 2 && self.left.table[SIZE * k] == 1).count();
-        let untrue = !self.run.holds(network, self.before);
+        let untrue = !held;
+        let percentage = self.before.percentage;
         let kept_out = kept.iter().any(|&k| !network.lines[k].served);
         let kept_naming = kept.iter().any(|&k| record::names(old(k), branch));
-        let held = old(branch).iter().any(|&byte| byte != 0);
+        let filled = old(branch).iter().any(|&byte| byte != 0);
         self.tally.accepted("back", changed);
         self.tally.kinds(
             "back",
             &[
-                ("in a run mixed with outages, from a true table", self.run.after_outages()),
-                ("out and back with nothing else between, all as it was", self.run.before_out(branch).is_some()),
+                ("in a run mixed with outages, from a true table", self.run.after_outages(percentage)),
+                ("out and back with nothing else between, all as it was", self.run.before_out(branch, percentage).is_some()),
                 ("that turned short records into carrying", turned > 0),
                 ("from an untrue table", untrue),
                 ("from an untrue table, with a record of byte 0 = 1 kept out of service", untrue && kept_out),
                 ("from an untrue table, with a record kept that names the returned branch", untrue && kept_naming),
-                ("from an untrue table, its own record not all zeros", untrue && held),
+                ("from an untrue table, its own record not all zeros", untrue && filled),
                 ("from a true table", !untrue),
             ],
         );

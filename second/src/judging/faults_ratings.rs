@@ -18,10 +18,10 @@ use crate::trial::stream::Command;
 
 /// Every fault by its name.
 pub const RATING_FAULTS: &[(&str, Plant)] = &[
-    ("a screen with verdicts by the normal limits", |done| records_by(done, "screen", |book| normal_alone(&Network::of(book)))),
-    ("an outage with verdicts by the normal limits", |done| records_by(done, "out", |book| normal_alone(&Network::of(book)))),
-    ("a return with verdicts by the normal limits", |done| records_by(done, "back", |book| normal_alone(&Network::of(book)))),
-    ("verdicts by the second kVA without the power factor", |done| records_by(done, "screen", without_factor)),
+    ("a screen with verdicts by the normal limits", |done| records_by(done, "screen", normal_alone)),
+    ("an outage with verdicts by the normal limits", |done| records_by(done, "out", normal_alone)),
+    ("a return with verdicts by the normal limits", |done| records_by(done, "back", normal_alone)),
+    ("verdicts by the second kVA without the power factor", |done| records_by_book(done, "screen", without_factor)),
     ("one branch called short, whose reroute is above a normal limit", |done| record_by_normal(done, 1, |_, excess| excess)),
     ("a shortage and a group by the normal limits", |done| record_by_normal(done, 2, |_, excess| excess)),
     ("a group by the normal limits, the shortage right", |done| {
@@ -82,8 +82,9 @@ fn normal_alone(network: &Network) -> Network {
     network
 }
 
-fn without_factor(book: &Book) -> Network {
-    let mut network = Network::of(book);
+/// The network with the second ratings of its book, as if they were in kW, in the place of the second limits.
+fn without_factor(network: &Network, book: &Book) -> Network {
+    let mut network = network.clone();
     let lines = network.lines.iter_mut().zip(&book.branches);
     lines.for_each(|(line, branch)| line.second_limit = branch.second_kva as i64);
     network
@@ -110,10 +111,15 @@ fn record_by_normal(done: &mut Done, verdict: u8, other: impl Fn(&[u8], Excess) 
 }
 
 /// Writes the records that a call writes anew by another reading of the limits, where that changes what they show.
-fn records_by(done: &mut Done, call: &str, reading: impl Fn(&Book) -> Network) -> bool {
+fn records_by(done: &mut Done, call: &str, reading: impl Fn(&Network) -> Network) -> bool {
+    records_by_book(done, call, |network, _| reading(network))
+}
+
+/// The same by a reading of the network and its book.
+fn records_by_book(done: &mut Done, call: &str, reading: impl Fn(&Network, &Book) -> Network) -> bool {
     done.command.call() == Some(call)
         && accepted(done, |network, done| {
-            let misread = reading(&book::unpack(done.after.bytes()).expect("an accepted call's book"));
+            let misread = reading(network, &book::unpack(done.after.bytes()).expect("an accepted call's book"));
             let flow = done.after.flow[..network.lines.len()].to_vec();
             let mut cutter = Cutter::new(&misread);
             let mut differs = false;
@@ -132,7 +138,8 @@ fn refused_by_12(done: &mut Done, call: &str, plant: impl FnOnce(&Network, usize
         return false;
     }
     let branch = if let Command::Switch { branch, .. } = *done.command { branch } else { 0 };
-    let network = Network::of(&book::unpack(done.before.bytes()).expect("a book refused with 12"));
+    let book = book::unpack(done.before.bytes()).expect("a book refused with 12");
+    let network = Network::of(&book, done.before.percentage);
     plant(&network, branch, done)
 }
 
@@ -201,7 +208,8 @@ impl Lost {
 
 fn lost(done: &Done) -> Option<Lost> {
     let Command::Switch { way: Way::Out, branch, .. } = *done.command else { return None };
-    let network = Network::of(&book::unpack(done.before.bytes()).ok().filter(|_| call_accepted(done))?);
+    let book = book::unpack(done.before.bytes()).ok().filter(|_| call_accepted(done))?;
+    let network = Network::of(&book, done.before.percentage);
     let flow = done.before.flow[..network.lines.len()].to_vec();
     let named = record::named(record::stretch(&done.before.table, branch), flow.len());
     (flow[branch] != 0).then_some(Lost { network, flow, branch, named })
@@ -220,7 +228,8 @@ fn between_taken(done: &mut Done, wanted: Way) -> bool {
     if way != wanted || done.command.answer_in(done.lines) != Some(11) {
         return false;
     }
-    let network = Network::of(&book::unpack(done.before.bytes()).expect("a book refused with 11"));
+    let book = book::unpack(done.before.bytes()).expect("a book refused with 11");
+    let network = Network::of(&book, done.before.percentage);
     let excess = cuts::base_excess(&network.with_status(branch, way.serves()));
     let answer = if excess.amount > 0 { Answer::overloaded(excess) } else { Answer::ACCEPTED };
     network.fits_within(Limits::Second, &done.before.flow[..network.lines.len()]) && says(done, answer)

@@ -188,5 +188,6 @@ fn refused_with(done: &Done, number: &str) -> bool {
 }
 
 fn flow_fits(done: &Done) -> bool {
-    book::unpack(done.before.bytes()).is_ok_and(|book| Network::of(&book).fits(&done.before.flow[..book.branches.len()]))
+    let book = book::unpack(done.before.bytes()).ok();
+    book.is_some_and(|book| Network::of(&book, done.before.percentage).fits(&done.before.flow[..book.branches.len()]))
 }

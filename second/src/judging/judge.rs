@@ -15,6 +15,7 @@ use crate::definitions::switching::Way;
 use crate::judging::accepted::{Call, Switch};
 use crate::judging::forms;
 use crate::judging::moved;
+use crate::judging::percentages;
 use crate::judging::ratings;
 use crate::judging::run::Run;
 use crate::judging::tally::Tally;
@@ -27,10 +28,13 @@ enum Pending {
     Switch(Switch),
 }
 
+/// Such a call with its command.
+type Accepted = (Command, Pending);
+
 pub struct Judge<'a> {
     spaces: Spaces,
     lines: std::str::Lines<'a>,
-    pending: Option<Pending>,
+    pending: Option<Accepted>,
     run: Run,
     pub tally: Tally,
 }
@@ -87,7 +91,7 @@ impl Judge<'_> {
     fn step(&mut self, command: &Command) -> Result<(), String> {
         match command {
             Command::Screen { flow, table } => {
-                let accepted = screen::screened(self.spaces.bytes(), *flow, *table);
+                let accepted = screen::screened(self.spaces.percentage, self.spaces.bytes(), *flow, *table);
                 self.call(command, accepted.map(Pending::Screen))
             }
             Command::Switch { way, flow, table, branch } => {
@@ -117,6 +121,7 @@ impl Judge<'_> {
     fn call(&mut self, command: &Command, accepted: Result<Pending, Answer>) -> Result<(), String> {
         let answer = accepted.as_ref().err().copied().unwrap_or(Answer::ACCEPTED);
         self.due(&format!("{} {answer}", word(command)))?;
+        percentages::called(&mut self.tally, &self.run, &self.spaces, command, answer);
         if !answer.accepted() {
             self.refused(command, answer);
             match (command, answer.number) {
@@ -128,7 +133,7 @@ impl Judge<'_> {
                 _ => {}
             }
         }
-        self.pending = accepted.ok();
+        self.pending = accepted.ok().map(|pending| (command.clone(), pending));
         Ok(())
     }
 
@@ -141,6 +146,9 @@ impl Judge<'_> {
         }
         for line in &lines {
             self.due(line)?;
+        }
+        if let Some(answer) = answer {
+            percentages::called(&mut self.tally, &self.run, &self.spaces, command, answer);
         }
         match answer {
             Some(Answer::ACCEPTED) => self.accepted(command, shelf),
@@ -171,25 +179,25 @@ impl Judge<'_> {
         self.tally.count("dumps");
         let mut left = self.spaces.clone();
         let pending = self.pending.take();
-        if let Some(Pending::Switch(switch)) = &pending {
+        if let Some((_, Pending::Switch(switch))) = &pending {
             let book = book::with_status(left.bytes(), switch.branch, switch.way.serves());
             left.book[..book.len()].copy_from_slice(&book);
         }
         self.due(&left.book_line())?;
-        let Some(pending) = pending else {
+        let Some((command, pending)) = pending else {
             return left.dump()[1..].iter().try_for_each(|line| self.due(line));
         };
         self.take_over(&mut left)?;
-        let mut call = Call { before: &self.spaces, left: &left, run: &self.run, tally: &mut self.tally };
+        let mut call = Call { command: &command, before: &self.spaces, left: &left, run: &self.run, tally: &mut self.tally };
         let name = match &pending {
             Pending::Screen(network) => {
                 call.judge_screen(network)?;
-                self.run.screened();
+                self.run.screened(self.spaces.percentage);
                 "screen"
             }
             Pending::Switch(switch) => {
-                call.judge_switch(switch)?;
-                self.run.switched(switch.way, switch.branch, &self.spaces);
+                let held = call.judge_switch(switch)?;
+                self.run.switched(switch.way, switch.branch, &self.spaces, held);
                 switch.way.name()
             }
         };

@@ -59,14 +59,13 @@ pub fn read_numbers(done: &mut Done, place: usize) -> bool {
 
 /// Whether the command is an accepted `S`, `O` or `K`; the network is the one after it.
 pub fn accepted(done: &mut Done, plant: impl FnOnce(&Network, &mut Done) -> bool) -> bool {
-    let call = matches!(done.command, Command::Screen { .. } | Command::Switch { .. });
-    if !call || done.lines[0].split(' ').nth(1) != Some("0") {
+    if !done.command.takes_percentage() || done.lines[0].split(' ').nth(1) != Some("0") {
         return false;
     }
     let Ok(book) = book::unpack(done.after.bytes()) else {
         return false;
     };
-    plant(&Network::of(&book), done)
+    plant(&Network::of(&book, done.before.percentage), done)
 }
 
 /// Whether the command is an accepted `O`, or an accepted `K`; the network is the one after it, the number its branch.

@@ -43,9 +43,9 @@ pub fn promised(network: &Network, fell_back: bool) -> Result<(), String> {
     Ok(())
 }
 
-/// The network of the book lent to a call that was refused with 11 or 12.
+/// The network of the book lent to a call that was refused with 11 or 12, at the percentage of the call.
 fn lent_network(lent: &Spaces) -> Network {
-    Network::of(&book::unpack(lent.bytes()).expect("a book that could be read"))
+    Network::of(&book::unpack(lent.bytes()).expect("a book that could be read"), lent.percentage)
 }
 
 /// Counts a screen refused with 12 whose book the second limits would do for.

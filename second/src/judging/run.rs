@@ -2,6 +2,7 @@
 
 use crate::definitions::book;
 use crate::definitions::network::Network;
+use crate::definitions::percentage::Percentage;
 use crate::definitions::record::SIZE;
 use crate::definitions::screen;
 use crate::definitions::switching::Way;
@@ -9,27 +10,40 @@ use crate::trial::spaces::Spaces;
 
 #[derive(Default)]
 pub struct Run {
-    /// The table is known to be true of the book and the flow: so after every judged screen.
-    pub table_true: bool,
-    /// The table's bytes are those of a table known to be true, whatever became of the book and the flow since.
+    /// The percentage at which the table is known to be true of the book and the flow: so after every judged screen. At another
+    /// it needn't be, and is looked at.
+    true_at: Option<Percentage>,
+    /// The table's bytes are those of a table known to be true, whatever became of the book, the flow and the percentage since.
     was_true: bool,
-    /// Outages accepted since the screen, the table true all along.
+    /// The percentage of the accepted call that left the flow and the table as they are.
+    left_at: Option<Percentage>,
+    /// The table was true all along since a screen, under one percentage.
+    screened: bool,
+    /// Outages and returns accepted since the table was known to be true, under one percentage.
     outages: usize,
+    returns: usize,
     /// Where nothing was changed since an outage from a true table: its branch, and the spaces before it.
     last_out: Option<(usize, Spaces)>,
 }
 
 impl Run {
-    /// An accepted screen was judged.
-    pub fn screened(&mut self) {
-        *self = Run { table_true: true, was_true: true, ..Run::default() };
+    /// An accepted screen at a percentage was judged.
+    pub fn screened(&mut self, percentage: Percentage) {
+        let at = Some(percentage);
+        *self = Run { true_at: at, was_true: true, left_at: at, screened: true, ..Run::default() };
     }
 
-    /// An accepted switching call was judged, by which a true table stays true.
-    pub fn switched(&mut self, way: Way, branch: usize, before: &Spaces) {
-        let out = self.table_true && way == Way::Out;
-        self.was_true = self.table_true;
+    /// An accepted switching call was judged, by which a table that held at its percentage stays true at it.
+    pub fn switched(&mut self, way: Way, branch: usize, before: &Spaces, held: bool) {
+        let at = Some(before.percentage);
+        if self.true_at != at {
+            // Another percentage, or a table that only now was found true: a run of its own.
+            *self = Run::default();
+        }
+        let out = held && way == Way::Out;
+        (self.true_at, self.was_true, self.left_at) = (at.filter(|_| held), held, at);
         self.outages += out as usize;
+        self.returns += (held && !out) as usize;
         self.last_out = out.then(|| (branch, before.clone()));
     }
 
@@ -43,32 +57,46 @@ impl Run {
 
     /// Whether there is anything that a stored number could change.
     pub fn known(&self) -> bool {
-        self.was_true
+        self.was_true || self.left_at.is_some()
     }
 
-    /// Whether a call now belongs to a run with an outage before it, from a screen on and with a true table.
-    pub fn after_outages(&self) -> bool {
-        self.table_true && self.outages > 0
+    /// Whether a call at a percentage belongs to a run under it with an outage before it and a table true all along.
+    pub fn after_outages(&self, percentage: Percentage) -> bool {
+        self.true_at == Some(percentage) && self.outages > 0
     }
 
-    /// The spaces before the outage of this branch, where nothing but that outage came since.
-    pub fn before_out(&self, branch: usize) -> Option<&Spaces> {
-        self.last_out.as_ref().filter(|(taken, _)| *taken == branch).map(|(_, before)| before)
+    /// The outages and returns accepted since a screen at this percentage, where the table was true all along.
+    pub fn since_screen(&self, percentage: Percentage) -> Option<(usize, usize)> {
+        (self.screened && self.true_at == Some(percentage)).then_some((self.outages, self.returns))
     }
 
-    /// Whether the table is true of a network and the flow, known to be or found so.
+    /// How the percentage of a call stands to the one at which its flow and table were left, where that is another.
+    pub fn change(&self, percentage: Percentage) -> Option<&'static str> {
+        let left_at = self.left_at.filter(|left_at| *left_at != percentage)?;
+        Some(if left_at < percentage { "rose" } else { "fell" })
+    }
+
+    /// The spaces before the outage of this branch, where nothing but that outage came since and the percentage is the same.
+    pub fn before_out(&self, branch: usize, percentage: Percentage) -> Option<&Spaces> {
+        let same = |(taken, before): &&(usize, Spaces)| *taken == branch && before.percentage == percentage;
+        self.last_out.as_ref().filter(same).map(|(_, before)| before)
+    }
+
+    /// Whether the table is true of the flow and a network, the book's at the percentage in force: known to be, or found so.
     pub fn holds(&self, network: &Network, spaces: &Spaces) -> bool {
         let count = network.lines.len();
-        self.table_true || screen::table_holds(network, &spaces.flow[..count], &spaces.table[..SIZE * count])
+        self.true_at == Some(spaces.percentage)
+            || screen::table_holds(network, &spaces.flow[..count], &spaces.table[..SIZE * count])
     }
 
-    /// How the table stands, for a refused call. No table is true of a book that can't be read or a flow that doesn't fit.
+    /// How the table stands, for a refused call. No table is true of a book that can't be read, of a flow that doesn't fit, or at
+    /// a percentage out of range.
     pub fn standing(&self, spaces: &Spaces) -> &'static str {
-        let network = book::unpack(spaces.bytes()).map(|book| Network::of(&book));
-        if network.is_ok_and(|network| self.holds(&network, spaces)) {
+        let book = book::unpack(spaces.bytes()).ok().filter(|_| spaces.percentage.in_range());
+        if book.is_some_and(|book| self.holds(&Network::of(&book, spaces.percentage), spaces)) {
             "from a true table"
         } else if self.was_true {
-            "from a table true before the book or the flow was changed"
+            "from a table true before the book, the flow or the percentage was changed"
         } else {
             "from an untrue table"
         }

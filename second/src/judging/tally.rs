@@ -3,12 +3,14 @@
 use crate::definitions::limits::Limits;
 use crate::definitions::network::Network;
 use crate::definitions::switching::Judged;
+use crate::judging::percentages::Percentages;
 use crate::judging::places::Places;
 use std::collections::BTreeMap;
 
 #[derive(Default)]
 pub struct Tally {
     kinds: BTreeMap<String, usize>,
+    pub percentages: Percentages,
     pub places: Places,
 }
 
@@ -27,6 +29,7 @@ impl Tally {
 
     pub fn join(&mut self, other: &Tally) {
         other.kinds.iter().for_each(|(kind, &number)| self.add(kind, number));
+        self.percentages.join(&other.percentages);
         self.places.join(&other.places);
     }
 
@@ -66,6 +69,7 @@ impl Tally {
 impl std::fmt::Display for Tally {
     fn fmt(&self, out: &mut std::fmt::Formatter) -> std::fmt::Result {
         self.kinds.iter().try_for_each(|(kind, number)| writeln!(out, "{number:>9}  {kind}"))?;
+        self.percentages.fmt(out)?;
         self.places.fmt(out)
     }
 }

@@ -151,7 +151,7 @@ pub fn registers(stream: &mut Stream) {
 
 /// An end that is no command: another byte, a number too large, or an end inside a command.
 pub fn bad_command(stream: &mut Stream) {
-    let bad: &[u8] = match stream.random.below(21) {
+    let bad: &[u8] = match stream.random.below(22) {
         0 => b"x",
         1 => b"F\x01\x00\x00\x00\x00\x00",
         2 => b"T\x34\x00\x00",
@@ -172,6 +172,7 @@ pub fn bad_command(stream: &mut Stream) {
         17 => b"L\x01\x08",
         18 => b"X\x00\x01\x00\x00\x00\x01\x00\x01\x00\x01\x08\x35",
         19 => b"X\x00\x01\x00\x00\x00\x01\x00\x01\x05\x01\x00\x07",
+        20 => b"Y",
         _ => b"B\x00\x05\x01\x02",
     };
     stream.bytes.extend(bad);

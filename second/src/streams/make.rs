@@ -5,7 +5,7 @@ use crate::books::random_ratings;
 use crate::definitions::record;
 use crate::definitions::switching::Way;
 use crate::streams::under_way::Stream;
-use crate::streams::{damage, make_forms, make_places, make_ratings, make_returns, make_tables, make_written};
+use crate::streams::{damage, make_forms, make_percentages, make_places, make_ratings, make_returns, make_tables, make_written};
 use crate::trial::stream::{Command, FLOWS, INJECTIONS, NUMBERS, TABLE};
 
 /// The random stream of a seed.
@@ -16,27 +16,8 @@ pub fn stream(seed: u64) -> Vec<u8> {
         if stream.random.once_in(3) {
             stream.add(Command::Spoil);
         }
-        match stream.random.below(27) {
-            0 => run(&mut stream),
-            1 | 2 => run_with_spoilt_table(&mut stream),
-            3 | 4 => make_tables::lent_flow(&mut stream),
-            5 => spoilt_flow(&mut stream),
-            6 => overloaded(&mut stream),
-            7 => damage::damaged(&mut stream),
-            8 => short_room(&mut stream),
-            9 => make_written::tables_to_book(&mut stream),
-            10 => damage::registers(&mut stream),
-            11..=15 => make_returns::mixed(&mut stream),
-            16 => make_returns::from_untrue(&mut stream),
-            17 | 18 => make_returns::refused(&mut stream),
-            19 | 20 => make_forms::moves(&mut stream),
-            21 => make_forms::refused(&mut stream),
-            22 => make_ratings::switched(&mut stream),
-            23 => make_ratings::lent_true(&mut stream),
-            24 => make_ratings::between(&mut stream),
-            25 => make_places::lent(&mut stream),
-            _ => make_places::in_tables(&mut stream),
-        }
+        make_percentages::of_episode(&mut stream);
+        episode(&mut stream);
         if stream.dumps_left == 0 {
             break;
         }
@@ -45,6 +26,35 @@ pub fn stream(seed: u64) -> Vec<u8> {
         damage::bad_command(&mut stream);
     }
     stream.bytes
+}
+
+/// One episode of any kind.
+fn episode(stream: &mut Stream) {
+    match stream.random.below(41) {
+        0 => run(stream),
+        1 | 2 => run_with_spoilt_table(stream),
+        3 | 4 => make_tables::lent_flow(stream),
+        5 => spoilt_flow(stream),
+        6 => overloaded(stream),
+        7 => damage::damaged(stream),
+        8 => short_room(stream),
+        9 => make_written::tables_to_book(stream),
+        10 => damage::registers(stream),
+        11..=15 => make_returns::mixed(stream),
+        16 => make_returns::from_untrue(stream),
+        17 | 18 => make_returns::refused(stream),
+        19..=21 => make_forms::moves(stream),
+        22 | 23 => make_forms::refused(stream),
+        24 | 25 => make_ratings::switched(stream),
+        26 => make_ratings::lent_true(stream),
+        27 => make_ratings::between(stream),
+        28 | 29 => make_places::lent(stream),
+        30 | 31 => make_places::in_tables(stream),
+        32..=34 => make_percentages::changed(stream),
+        35 | 36 => make_percentages::lent_and_changed(stream),
+        37 | 38 => make_percentages::just_enough(stream),
+        _ => make_percentages::out_of_range(stream),
+    }
 }
 
 /// A screen and a run of outages.
@@ -93,11 +103,15 @@ fn spoilt_flow(stream: &mut Stream) {
 
 /// Books that may be overloaded, and their outages.
 fn overloaded(stream: &mut Stream) {
+    let percentage = stream.good_percentage();
     for _ in 0..3 {
         let (buses, count) = counts(&mut stream.random);
         let rated = stream.random.once_in(2);
-        let book =
-            if rated { random_ratings::overloaded(&mut stream.random) } else { strained(&mut stream.random, buses, count) };
+        let book = if rated {
+            random_ratings::overloaded(&mut stream.random, percentage)
+        } else {
+            strained(&mut stream.random, buses, count)
+        };
         stream.book(&book);
         stream.screen(book.branches.len());
         if stream.dumps_left == 0 {

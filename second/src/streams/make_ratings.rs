@@ -86,10 +86,11 @@ pub fn switched(stream: &mut Stream) {
 pub fn lent_true(stream: &mut Stream) {
     let buses = 2 + stream.random.below(5);
     let count = buses + stream.random.below(buses + 1);
-    let (book, flow) = heavy(&mut stream.random, buses, count);
+    let percentage = stream.good_percentage();
+    let (book, flow) = heavy(&mut stream.random, percentage, buses, count);
     let flow: Vec<i32> = flow.iter().map(|&kw| kw as i32).collect();
     lend(stream, &book, &flow);
-    let network = Network::of(&book);
+    let network = Network::of(&book, percentage);
     let table = screen::own_table(&network, &stream.spaces.flow[..count]);
     (0..count).for_each(|branch| put_record(stream, branch, record::stretch(&table, branch)));
     for wanted in [Wanted::CarriesOnly, Wanted::OtherGroup, Wanted::Elsewhere, Wanted::AsRecorded] {
@@ -114,10 +115,13 @@ fn lent_between(stream: &mut Stream) {
     }
     let only = |spaces: &Spaces, cutter: &mut Cutter, branch: usize| Wanted::CarriesOnly.holds(spaces, cutter, branch);
     let Some(branch) = stream.found(TRIES, only) else { return };
-    let network = Network::of(&unpack(stream.spaces.bytes()).expect("a book that was screened"));
+    let book = unpack(stream.spaces.bytes()).expect("a book that was screened");
+    let network = Network::of(&book, stream.spaces.percentage);
     let all: Vec<usize> = (0..count).collect();
     let left = reroutes::confined(&network, Limits::Second, &stream.spaces.flow[..count], branch, &all);
-    for (branch, kw) in left.expect("a carrying branch").into_iter().enumerate() {
+    // Under a percentage out of range the screen was refused, and left no flow to begin with.
+    let Some(left) = left else { return };
+    for (branch, kw) in left.into_iter().enumerate() {
         stream.add(Command::Flow(branch, kw as i32));
     }
     for served in [true, false] {

@@ -66,7 +66,8 @@ pub fn spoil(stream: &mut Stream, count: usize, branch: usize) {
 /// A fitting flow of our own choice is lent with a table that no screen made; then a run of outages.
 pub fn lent_flow(stream: &mut Stream) {
     let (buses, count) = counts(&mut stream.random);
-    let (book, flow) = served_with_flow(&mut stream.random, buses, count);
+    let percentage = stream.good_percentage();
+    let (book, flow) = served_with_flow(&mut stream.random, percentage, buses, count);
     let count = book.branches.len();
     stream.book(&book);
     for (branch, kw) in flow.iter().enumerate() {

@@ -7,6 +7,7 @@ use crate::definitions::book::{self, pack, Book};
 use crate::definitions::cuts::{self, Cutter};
 use crate::definitions::form::LARGEST;
 use crate::definitions::network::Network;
+use crate::definitions::percentage::{Percentage, NAMEPLATE};
 use crate::definitions::record;
 use crate::definitions::switching::Way;
 use crate::trial::reference;
@@ -27,6 +28,8 @@ pub struct Stream {
     /// With another program's flows a call may have been accepted that is refused here, or the other way about, so that its
     /// book may differ from ours until the next one is put in place.
     unsure: bool,
+    /// The percentage of the last accepted call with a choice, at which every program's flow fits; 0 before there is one.
+    fits_at: Percentage,
 }
 
 impl Stream {
@@ -39,6 +42,7 @@ impl Stream {
             dump_refused: 4,
             dump_each_refused: false,
             unsure: false,
+            fits_at: Percentage(0),
         }
     }
 
@@ -52,9 +56,14 @@ impl Stream {
             _ => self.unsure,
         };
         let Some(number) = command.answer_in(&lines) else { return };
-        let with_choice = matches!(command, Command::Screen { .. } | Command::Switch { .. });
+        let with_choice = command.takes_percentage();
         // Whether a flow fits may hang on another program's choice, so an 11 here may be accepted there.
         self.unsure |= number == 11 && self.may_fit();
+        if with_choice && number == 0 {
+            // At a lower percentage than it was left at, another program's flow may not fit.
+            self.unsure |= matches!(command, Command::Switch { .. }) && self.spaces.percentage < self.fits_at;
+            self.fits_at = self.spaces.percentage;
+        }
         let may_be_accepted = with_choice && (number == 0 || self.unsure);
         let shown = self.dump_each_refused && number != 0;
         if may_be_accepted || shown || with_choice && self.random.once_in(self.dump_refused) {
@@ -92,10 +101,25 @@ impl Stream {
         self.add(Command::Book(pack(book)));
     }
 
+    /// Tells the percentage of all calls from here on.
+    pub fn percentage(&mut self, percentage: Percentage) {
+        self.add(Command::Percentage(percentage));
+    }
+
+    /// The percentage that a good book is made for: the one told, or 100 where that is out of range.
+    pub fn good_percentage(&self) -> Percentage {
+        Some(self.spaces.percentage).filter(|told| told.in_range()).unwrap_or(NAMEPLATE)
+    }
+
     /// A good book of either form in the book space; its number of branches.
     pub fn good_book(&mut self) -> usize {
+        self.good_book_at(self.good_percentage())
+    }
+
+    /// The same for a percentage: with it or a larger one the book isn't overloaded.
+    pub fn good_book_at(&mut self, percentage: Percentage) -> usize {
         let (buses, count) = counts(&mut self.random);
-        let (book, _) = served_with_flow(&mut self.random, buses, count);
+        let (book, _) = served_with_flow(&mut self.random, percentage, buses, count);
         self.book(&book);
         book.branches.len()
     }
@@ -103,7 +127,8 @@ impl Stream {
     /// A good book whose ratings differ tellingly in the book space; its number of branches.
     pub fn heavy_book(&mut self) -> usize {
         let (buses, count) = heavy_counts(&mut self.random);
-        let (book, _) = heavy(&mut self.random, buses, count);
+        let percentage = self.good_percentage();
+        let (book, _) = heavy(&mut self.random, percentage, buses, count);
         self.book(&book);
         book.branches.len()
     }
@@ -154,7 +179,7 @@ impl Stream {
     /// A branch in service that is as wanted, of the book as it stands, if so many tries find one; a book with an excess has
     /// none.
     pub fn found(&mut self, tries: usize, wanted: impl Fn(&Spaces, &mut Cutter, usize) -> bool) -> Option<usize> {
-        let network = Network::of(&self.standing_book()?);
+        let network = Network::of(&self.standing_book()?, self.spaces.percentage);
         let mut cutter = Cutter::new(&network);
         if network.lines.is_empty() || cutter.base_excess().amount > 0 {
             return None;

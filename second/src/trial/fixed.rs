@@ -1,15 +1,16 @@
 //! What the papers fix of a trial's output: everything but `?` where a flow number or a table byte is left open.
 //!
 //! Open after an accepted screen or outage: the flow of every branch in service, and the reroute of every carrying
-//! one. After an outage from a table not known to be true also every byte of a record whose place on the shortlist
-//! may hang on the flow. A return opens no flow, and of a record only the reroute of one that it writes anew and that
-//! carries. Where an answer itself hangs on an open flow, the rest is left out.
+//! one. After an outage from a table not known to be true at its percentage also every byte of a record whose place on
+//! the shortlist may hang on the flow. A return opens no flow, and of a record only the reroute of one that it writes
+//! anew and that carries. Where an answer itself hangs on an open flow, the rest is left out.
 
 use crate::definitions::answer::Answer;
 use crate::definitions::book;
 use crate::definitions::cuts;
 use crate::definitions::limits::Limits;
 use crate::definitions::network::{Line, Network, Verdict};
+use crate::definitions::percentage::Percentage;
 use crate::definitions::record::{self, SIZE};
 use crate::definitions::screen;
 use crate::definitions::switching::{self, Lent, Way};
@@ -20,10 +21,10 @@ struct Fixed {
     spaces: Spaces,
     open_flow: Vec<bool>,
     open_table: Vec<bool>,
-    /// The flow is known to fit the book, though its numbers may be open.
-    fits: bool,
-    /// The table is known to be true.
-    table_true: bool,
+    /// The least percentage at which the flow is known to fit the book, though its numbers may be open.
+    fits_at: Option<Percentage>,
+    /// The percentage at which the table is known to be true.
+    true_at: Option<Percentage>,
 }
 
 /// The fixed part of the output for a stream.
@@ -32,8 +33,8 @@ pub fn fixed(stream: &[u8]) -> String {
         spaces: Spaces::default(),
         open_flow: vec![false; FLOWS],
         open_table: vec![false; TABLE],
-        fits: false,
-        table_true: false,
+        fits_at: None,
+        true_at: None,
     };
     let mut text = String::new();
     for command in commands(stream) {
@@ -70,10 +71,11 @@ impl Fixed {
             _ => {}
         }
         let (_, lines) = self.spaces.run(command);
-        let stores = matches!(command, Command::Table(..) | Command::Injection(..) | Command::Number(..));
+        let stores =
+            matches!(command, Command::Table(..) | Command::Injection(..) | Command::Number(..) | Command::Percentage(_));
         let keeps_book = stores || matches!(command, Command::Read { .. } | Command::Move { .. } | Command::Meters { .. });
-        self.fits &= keeps_book;
-        self.table_true &= keeps_book && !matches!(command, Command::Table(..));
+        self.fits_at = self.fits_at.filter(|_| keeps_book);
+        self.true_at = self.true_at.filter(|_| keeps_book && !matches!(command, Command::Table(..)));
         lines
     }
 
@@ -88,7 +90,8 @@ impl Fixed {
     }
 
     fn screen(&mut self, flow: usize, table: usize) -> Answer {
-        let network = match screen::screened(self.spaces.bytes(), flow, table) {
+        let percentage = self.spaces.percentage;
+        let network = match screen::screened(percentage, self.spaces.bytes(), flow, table) {
             Ok(network) => network,
             Err(answer) => return answer,
         };
@@ -96,7 +99,7 @@ impl Fixed {
         for (branch, verdict) in screen::verdicts(&network).into_iter().enumerate() {
             self.set_record(branch, verdict, network.lines.len());
         }
-        (self.fits, self.table_true) = (true, true);
+        (self.fits_at, self.true_at) = (Some(percentage), Some(percentage));
         Answer::ACCEPTED
     }
 
@@ -126,7 +129,8 @@ impl Fixed {
         if !open {
             return Some(switching::fitting(way, lent, branch));
         }
-        if self.fits {
+        // A flow that fits at a percentage fits at every larger one, whose limits are no less.
+        if self.fits_at.is_some_and(|least| least <= lent.percentage) {
             return Some(Ok(network));
         }
         self.surely_unfit(&network).then(|| Err(Answer::refused(11)))
@@ -144,11 +148,13 @@ impl Fixed {
         }
         let book = book::with_status(self.spaces.bytes(), branch, way.serves());
         self.spaces.book[..book.len()].copy_from_slice(&book);
+        // A table true at another percentage needn't be true at this one.
+        self.true_at = self.true_at.filter(|at| *at == self.spaces.percentage);
         match way {
             Way::Out => self.taken_out(&changed, branch),
             Way::Back => self.brought_back(&changed, branch),
         }
-        self.fits = true;
+        self.fits_at = Some(self.spaces.percentage);
         Some(Answer::ACCEPTED)
     }
 
@@ -162,7 +168,7 @@ impl Fixed {
             self.open_flows(changed);
         }
         for (k, verdict) in screen::verdicts(changed).into_iter().enumerate() {
-            if !changed.lines[k].served || self.surely_not_1(k) || self.table_true {
+            if !changed.lines[k].served || self.surely_not_1(k) || self.true_at.is_some() {
                 self.set_record(k, verdict, changed.lines.len());
             } else {
                 self.open_table[SIZE * k..SIZE * (k + 1)].fill(true);

@@ -10,10 +10,12 @@ use crate::definitions::switching::Way;
 use crate::trial::spaces::Spaces;
 use crate::trial::stream::{commands, Command};
 
-/// One command done: what was before and after it, the lines it printed, and the command that follows.
+/// One command done: what was before and after it, the lines it printed, the command that follows, and the one that does when
+/// dumps are passed over.
 pub struct Done<'a> {
     pub command: &'a Command,
     pub next: Option<&'a Command>,
+    pub then: Option<&'a Command>,
     pub before: &'a Spaces,
     pub after: &'a mut Spaces,
     pub lines: &'a mut Vec<String>,
@@ -36,8 +38,10 @@ pub fn output_with(stream: &[u8], meddle: &mut dyn FnMut(Done)) -> String {
         };
         let before = spaces.clone();
         let mut lines = step(&mut spaces, command);
-        let next = commands.get(place + 1).and_then(|next| next.as_ref().ok());
-        meddle(Done { command, next, before: &before, after: &mut spaces, lines: &mut lines });
+        let mut later = commands[place + 1..].iter().map_while(|later| later.as_ref().ok());
+        let next = later.clone().next();
+        let then = later.find(|later| **later != Command::Dump);
+        meddle(Done { command, next, then, before: &before, after: &mut spaces, lines: &mut lines });
         printed.extend(lines);
     }
     printed.iter().map(|line| format!("{line}\n")).collect()
@@ -55,7 +59,7 @@ pub fn step(spaces: &mut Spaces, command: &Command) -> Vec<String> {
 }
 
 fn screen_once(spaces: &mut Spaces, flow: usize, table: usize) -> Answer {
-    let network = match screen::screened(spaces.bytes(), flow, table) {
+    let network = match screen::screened(spaces.percentage, spaces.bytes(), flow, table) {
         Ok(network) => network,
         Err(answer) => return answer,
     };

@@ -4,6 +4,7 @@ use crate::definitions::answer::Answer;
 use crate::definitions::form::Form;
 use crate::definitions::meters::{self, Registers};
 use crate::definitions::moves;
+use crate::definitions::percentage::{Percentage, NAMEPLATE};
 use crate::definitions::record;
 use crate::definitions::switching::Lent;
 use crate::definitions::tables;
@@ -20,6 +21,8 @@ pub struct Spaces {
     pub numbers: Vec<u32>,
     /// The second book space, which holds what a move wrote.
     pub shelf: Vec<u8>,
+    /// No space, but kept beside them: the percentage of every call until it is told another.
+    pub percentage: Percentage,
 }
 
 impl Default for Spaces {
@@ -32,6 +35,7 @@ impl Default for Spaces {
             injections: vec![0; INJECTIONS],
             numbers: vec![0; NUMBERS],
             shelf: vec![0; BOOK],
+            percentage: NAMEPLATE,
         }
     }
 }
@@ -42,7 +46,7 @@ impl Spaces {
     }
 
     pub fn lent(&self, flow: usize, table: usize) -> Lent<'_> {
-        Lent { book: self.bytes(), flow: &self.flow[..flow], table: &self.table[..table] }
+        Lent { percentage: self.percentage, book: self.bytes(), flow: &self.flow[..flow], table: &self.table[..table] }
     }
 
     /// Whether book, flow and table are the same.
@@ -50,6 +54,7 @@ impl Spaces {
         self.bytes() == other.bytes() && self.flow == other.flow && self.table == other.table
     }
 
+    /// Spoils every space; the percentage is none and stays.
     fn spoil(&mut self) {
         self.book.fill(170);
         self.length = 0;
@@ -72,6 +77,7 @@ impl Spaces {
             Command::Table(k, v) => self.table[*k] = *v,
             Command::Injection(k, v) => self.injections[*k] = *v as i64,
             Command::Number(k, v) => self.numbers[*k] = *v,
+            Command::Percentage(percentage) => self.percentage = *percentage,
             Command::Read { injections, branches } => return self.read(*injections, *branches),
             Command::Write { .. } => return self.write(command),
             Command::Move { form, room } => return self.move_book(*form, *room),

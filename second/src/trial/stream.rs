@@ -1,6 +1,7 @@
 //! The commands of a trial stream: read from bytes and turned into bytes.
 
 use crate::definitions::form::Form;
+use crate::definitions::percentage::Percentage;
 use crate::definitions::switching::Way;
 
 pub const BOOK: usize = 2_100;
@@ -17,12 +18,40 @@ pub enum Command {
     Table(usize, u8),
     Injection(usize, i32),
     Number(usize, u32),
-    Screen { flow: usize, table: usize },
-    Switch { way: Way, flow: usize, table: usize, branch: usize },
-    Read { injections: usize, branches: usize },
-    Write { form: Form, buses: usize, count: usize, factor: usize, injections: usize, branches: usize, room: usize },
-    Move { form: Form, room: usize },
-    Meters { lists: [Vec<u32>; 4], lent: usize, supply: usize },
+    Screen {
+        flow: usize,
+        table: usize,
+    },
+    Switch {
+        way: Way,
+        flow: usize,
+        table: usize,
+        branch: usize,
+    },
+    Read {
+        injections: usize,
+        branches: usize,
+    },
+    Write {
+        form: Form,
+        buses: usize,
+        count: usize,
+        factor: usize,
+        injections: usize,
+        branches: usize,
+        room: usize,
+    },
+    Move {
+        form: Form,
+        room: usize,
+    },
+    Meters {
+        lists: [Vec<u32>; 4],
+        lent: usize,
+        supply: usize,
+    },
+    /// That of all later calls, until the next.
+    Percentage(Percentage),
     Dump,
 }
 
@@ -38,6 +67,11 @@ impl Command {
             Command::Meters { .. } => Some("meters"),
             _ => None,
         }
+    }
+
+    /// Whether it makes a call that rests on a limit, and so takes the percentage: a screen, an outage, a return.
+    pub fn takes_percentage(&self) -> bool {
+        matches!(self, Command::Screen { .. } | Command::Switch { .. })
     }
 
     /// The number of its answer among the lines that it printed.
@@ -115,6 +149,7 @@ impl Commands<'_> {
             b'X' => self.write(Form::New)?,
             b'L' => Command::Move { form: self.form()?, room: self.two(BOOK)? },
             b'M' => self.meters()?,
+            b'Y' => Command::Percentage(Percentage(self.number(1)? as u8)),
             b'D' => Command::Dump,
             _ => return Err(Bad),
         })
@@ -186,6 +221,7 @@ pub fn bytes(command: &Command) -> Vec<u8> {
             bytes.extend(lists.iter().flatten().flat_map(|reading| reading.to_be_bytes()));
             bytes
         }
+        Command::Percentage(percentage) => vec![b'Y', percentage.0],
         Command::Dump => vec![b'D'],
     }
 }

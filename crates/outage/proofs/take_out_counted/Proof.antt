@@ -52,16 +52,16 @@ abbrev lost : tie.After-enum-told → ℕ
 lost c = start c .args .branch
 
 -- ---- What holds there.
-ok : (c : tie.After-enum-told) → takeCheck (bytes c) (length (lent-flow c)) (length (lent-table c)) (lost c) ≡ Accepted
+ok : (c : tie.After-enum-told) → takeCheck (start c .args .percent) (bytes c) (length (lent-flow c)) (length (lent-table c)) (lost c) ≡ Accepted
 ok c = sym (c .before .before .check .ensures) ∙ c .enum-told .given .1
 
 sizes-at : (c : tie.After-survey-lent) → (c .survey-lent .result .wires .buses ≤ 128) × (c .survey-lent .result .wires .branches ≤ 256) × (lost (told c) < c .survey-lent .result .wires .branches)
-sizes-at c = let t = told c in sizes (c .survey-lent .ensures) (may (bytes t) (lent-flow t) (lent-table t) (lost t) (ok t) .there)
+sizes-at c = let t = told c in sizes (c .survey-lent .ensures) (may _ (bytes t) (lent-flow t) (lent-table t) (lost t) (ok t) .there)
 
 table-room : (c : tie.After-survey-lent) → 52 * c .survey-lent .result .wires .branches ≤ length (lent-table (told c))
 table-room c =
     let t = told c in
-    omega (arith, may (bytes t) (lent-flow t) (lent-table t) (lost t) (ok t) .passes .table-room, c .survey-lent .ensures .branches-are)
+    omega (arith, may _ (bytes t) (lent-flow t) (lent-table t) (lost t) (ok t) .passes .table-room, c .survey-lent .ensures .branches-are)
 
 group-long : (c : tie.After-replace) → length (c .replace .result .group) ≡ 16
 group-long c = search needs
@@ -82,7 +82,7 @@ poised c =
     let r = replaced u in
     let m = surveyed r in
     let t = told m in
-    poised-here (bytes t) (lent-flow t) (lent-table t) (lost t) (ok t) _ (m .survey-lent .ensures) (fitting r) _ _ (r .replace .ensures)
+    poised-here _ (bytes t) (lent-flow t) (lent-table t) (lost t) (ok t) _ (m .survey-lent .ensures) (fitting r) _ _ (r .replace .ensures)
     (u .before .before .served-with .ensures) (u .before .kw-with .ensures) (u .kw-with2 .ensures) (carried u) _ (f .fill-flow .ensures)
     (c .raise .ensures)
 
@@ -100,12 +100,12 @@ same-length : tie.Need-same-length
 same-length c = search needs
 
 returns : tie.Need-returns
-returns c = ends-refused _ _ _ _ _ (c .before .before .check .ensures) (not-accepted _ (c .before .match .keys2)) (c .told .ensures)
+returns c = ends-refused _ _ _ _ _ _ (c .before .before .check .ensures) (not-accepted _ (c .before .match .keys2)) (c .told .ensures)
 
 survey-lent-requires : tie.Need-survey-lent-requires
 survey-lent-requires c κs =
     let t = c .before .before in
-    surveyable (may (bytes t) (lent-flow t) (lent-table t) (lost t) (ok t) .passes)
+    surveyable (may _ (bytes t) (lent-flow t) (lent-table t) (lost t) (ok t) .passes)
 
 refuse-requires : tie.Need-refuse-requires
 refuse-requires c κs = search needs
@@ -123,7 +123,7 @@ returns-2 : tie.Need-returns-2
 returns-2 c =
     let m = c .before .before .before in
     let t = told m in
-    ends-unfit (bytes t) (lent-flow t) (lent-table t) (lost t) (ok t) _ (m .survey-lent .ensures) (not-true _ (c .before .before .if1 .taken))
+    ends-unfit _ (bytes t) (lent-flow t) (lent-table t) (lost t) (ok t) _ (m .survey-lent .ensures) (not-true _ (c .before .before .if1 .taken))
     (c .told2 .ensures .0 ∙ ap bare (c .before .refuse .ensures)) (c .told2 .ensures .1)
 
 stretch-requires : tie.Need-stretch-requires
@@ -139,7 +139,7 @@ replace-requires c κs =
     let e = c .before .before .before .before .before .before .before in
     let m = e .before in
     let t = told m in
-    losable-here (bytes t) (lent-flow t) (lent-table t) (lost t) (ok t) _ (m .survey-lent .ensures) (not-false _ (e .if1 .left))
+    losable-here _ (bytes t) (lent-flow t) (lent-table t) (lost t) (ok t) _ (m .survey-lent .ensures) (not-false _ (e .if1 .left))
 
 enum-known-verdict : tie.Need-enum-known-verdict
 enum-known-verdict c = search needs
@@ -161,7 +161,7 @@ returns-3 c =
     let r = c .before .before .before .before .before in
     let m = surveyed r in
     let t = told m in
-    ends-short (bytes t) (lent-flow t) (lent-table t) (lost t) (ok t) _ (m .survey-lent .ensures) (fitting r) _ _ (r .replace .ensures) _
+    ends-short _ (bytes t) (lent-flow t) (lent-table t) (lost t) (ok t) _ (m .survey-lent .ensures) (fitting r) _ _ (r .replace .ensures) _
     (c .before .before .before .verdict .given .1) (group-long r) (c .short .ensures)
 
 enum-told-2 : tie.Need-enum-told-2
@@ -189,7 +189,7 @@ fill-flow-requires c κs =
     let r = replaced u in
     let m = surveyed r in
     let t = told m in
-    fillable-here (bytes t) (lent-flow t) (lent-table t) (lost t) (ok t) _ (m .survey-lent .ensures) (fitting r) _ _ (r .replace .ensures)
+    fillable-here _ (bytes t) (lent-flow t) (lent-table t) (lost t) (ok t) _ (m .survey-lent .ensures) (fitting r) _ _ (r .replace .ensures)
     (u .before .before .served-with .ensures) (u .before .kw-with .ensures) (u .kw-with2 .ensures)
 
 raise-requires : tie.Need-raise-requires
@@ -199,7 +199,7 @@ raise-requires c κs =
     let r = replaced u in
     let m = surveyed r in
     let t = told m in
-    raisable-here (bytes t) (lent-flow t) (lent-table t) (lost t) (ok t) _ (m .survey-lent .ensures) (fitting r) _ _ (r .replace .ensures)
+    raisable-here _ (bytes t) (lent-flow t) (lent-table t) (lost t) (ok t) _ (m .survey-lent .ensures) (fitting r) _ _ (r .replace .ensures)
     (u .before .before .served-with .ensures) (u .before .kw-with .ensures) (u .kw-with2 .ensures) (carried u) _ (f .fill-flow .ensures)
 
 rewrite-requires : tie.Need-rewrite-requires
@@ -232,7 +232,7 @@ returns-4 c =
     let r = replaced u in
     let m = surveyed r in
     let t = told m in
-    ends-taken (bytes t) (lent-flow t) (lent-table t) (lost t) (ok t) _ (m .survey-lent .ensures) (fitting r) _ _ (r .replace .ensures)
+    ends-taken _ (bytes t) (lent-flow t) (lent-table t) (lost t) (ok t) _ (m .survey-lent .ensures) (fitting r) _ _ (r .replace .ensures)
     (u .before .before .served-with .ensures) (u .before .kw-with .ensures) (u .kw-with2 .ensures) (carried u) _ (f .fill-flow .ensures) _
     (u .before .before .before .touch .ensures)
     (l .raise .ensures) (c .told3 .ensures .0) (c .told3 .ensures .1)

@@ -1,21 +1,24 @@
--- `limit` gives kVA times power factor divided by 1000, and no step of it wraps.
+-- `limit` gives kVA times power factor times percentage divided by 100,000, and no step of it wraps.
 use borrow.Author.Needs.{needs}
 use native.Mathlib.Omega.{arith}
-use native.Mathlib.Nat.{mul-le-mul-left}
+use Rattle.quantity.proofs.Limits.{times-factor, times-percent}
 use Rattle.quantity.proofs.limit.Statement.{statement}
 use Rattle.quantity.proofs.limit.Tie as tie
 
-cast-t4 : tie.Need-cast-t4
-cast-t4 c = search needs
+cast-t5 : tie.Need-cast-t5
+cast-t5 c = search needs
 
-mul-t6 : tie.Need-mul-t6
-mul-t6 c = omega (arith, mul-le-mul-left (c .args .rating .0) (c .pre))
+mul-t7 : tie.Need-mul-t7
+mul-t7 c = omega (arith, times-factor (c .args .rating .0) (c .pre .0))
 
-cast-t8 : tie.Need-cast-t8
-cast-t8 c = omega (arith, mul-le-mul-left (c .args .rating .0) (c .pre))
+mul-t9 : tie.Need-mul-t9
+mul-t9 c = omega (arith, times-percent (c .args .rating .0) (c .pre .0) (c .pre .1))
+
+cast-t11 : tie.Need-cast-t11
+cast-t11 c = omega (arith, times-percent (c .args .rating .0) (c .pre .0) (c .pre .1))
 
 returns : tie.Need-returns
 returns c = search needs
 
 pub limit-spec : {M : Type 1} → statement M
-limit-spec = tie.close (tie.spec cast-t4 mul-t6 cast-t8 returns)
+limit-spec = tie.close (tie.spec cast-t5 mul-t7 mul-t9 cast-t11 returns)

@@ -51,12 +51,12 @@ abbrev returning : tie.After-enum-told → ℕ
 returning c = start c .args .branch
 
 -- ---- What holds there.
-ok : (c : tie.After-enum-told) → backCheck (bytes c) (length (lent-flow c)) (length (lent-table c)) (returning c) ≡ Accepted
+ok : (c : tie.After-enum-told) → backCheck (start c .args .percent) (bytes c) (length (lent-flow c)) (length (lent-table c)) (returning c) ≡ Accepted
 ok c = sym (c .before .before .check .ensures) ∙ c .enum-told .given .1
 
 sizes-at : (c : tie.After-survey-lent)
     → (c .survey-lent .result .wires .buses ≤ 128) × (c .survey-lent .result .wires .branches ≤ 256) × (returning (told c) < c .survey-lent .result .wires .branches)
-sizes-at c = let t = told c in sizes (c .survey-lent .ensures) (may (bytes t) (lent-flow t) (lent-table t) (returning t) (ok t) .there)
+sizes-at c = let t = told c in sizes (c .survey-lent .ensures) (may _ (bytes t) (lent-flow t) (lent-table t) (returning t) (ok t) .there)
 
 below : (c : tie.After-survey-lent) → returning (told c) < 256
 below c = let s = sizes-at c in omega (arith, s .1, s .2)
@@ -64,7 +64,7 @@ below c = let s = sizes-at c in omega (arith, s .1, s .2)
 table-room : (c : tie.After-survey-lent) → 52 * c .survey-lent .result .wires .branches ≤ length (lent-table (told c))
 table-room c =
     let t = told c in
-    omega (arith, may (bytes t) (lent-flow t) (lent-table t) (returning t) (ok t) .passes .table-room, c .survey-lent .ensures .branches-are)
+    omega (arith, may _ (bytes t) (lent-flow t) (lent-table t) (returning t) (ok t) .passes .table-room, c .survey-lent .ensures .branches-are)
 
 fitting : (c : tie.After-back) → surveyed c .survey-lent .result .fits ≡ true
 fitting c = not-false _ (c .before .before .before .before .before .before .before .before .before .if1 .left)
@@ -77,7 +77,7 @@ poised c =
     let r = in-hand c in
     let m = surveyed r in
     let t = told m in
-    poised-here (bytes t) (lent-flow t) (lent-table t) (returning t) (ok t) _ (m .survey-lent .ensures) (fitting r) _ (raised r .raise .ensures)
+    poised-here _ (bytes t) (lent-flow t) (lent-table t) (returning t) (ok t) _ (m .survey-lent .ensures) (fitting r) _ (raised r .raise .ensures)
     (c .before .before .before .served-with .ensures) (c .before .before .kw-with .ensures) (c .before .kw-with2 .ensures) (c .kw-with3 .ensures)
 
 -- ---- The needs.
@@ -94,12 +94,12 @@ same-length : tie.Need-same-length
 same-length c = search needs
 
 returns : tie.Need-returns
-returns c = ends-refused _ _ _ _ _ (c .before .before .check .ensures) (not-accepted _ (c .before .match .keys2)) (c .answer-with .ensures)
+returns c = ends-refused _ _ _ _ _ _ (c .before .before .check .ensures) (not-accepted _ (c .before .match .keys2)) (c .answer-with .ensures)
 
 survey-lent-requires : tie.Need-survey-lent-requires
 survey-lent-requires c κs =
     let t = c .before in
-    surveyable (may (bytes t) (lent-flow t) (lent-table t) (returning t) (ok t) .passes)
+    surveyable (may _ (bytes t) (lent-flow t) (lent-table t) (returning t) (ok t) .passes)
 
 refuse-requires : tie.Need-refuse-requires
 refuse-requires c κs = search needs
@@ -114,7 +114,7 @@ returns-2 : tie.Need-returns-2
 returns-2 c =
     let m = c .before .before .before in
     let t = told m in
-    ends-unfit (bytes t) (lent-flow t) (lent-table t) (returning t) (ok t) _ (m .survey-lent .ensures) (not-true _ (c .before .before .if1 .taken))
+    ends-unfit _ (bytes t) (lent-flow t) (lent-table t) (returning t) (ok t) _ (m .survey-lent .ensures) (not-true _ (c .before .before .if1 .taken))
     (c .answer-with2 .ensures ∙ ap bare (c .before .refuse .ensures))
 
 mul-kw : tie.Need-mul-kw
@@ -128,7 +128,7 @@ raise-requires c κs =
     let q = c .before .before .before .before .before .before in
     let m = q .before in
     let t = told m in
-    raisable-here (bytes t) (lent-flow t) (lent-table t) (returning t) (ok t) _ (m .survey-lent .ensures) (not-false _ (q .if1 .left))
+    raisable-here _ (bytes t) (lent-flow t) (lent-table t) (returning t) (ok t) _ (m .survey-lent .ensures) (not-false _ (q .if1 .left))
 
 served-with-requires : tie.Need-served-with-requires
 served-with-requires c κs = below (surveyed c)
@@ -169,7 +169,7 @@ returns-3 c =
     let r = in-hand k in
     let m = surveyed r in
     let t = told m in
-    ends-back (bytes t) (lent-flow t) (lent-table t) (returning t) (ok t) _ (m .survey-lent .ensures) (fitting r) _ (raised r .raise .ensures)
+    ends-back _ (bytes t) (lent-flow t) (lent-table t) (returning t) (ok t) _ (m .survey-lent .ensures) (fitting r) _ (raised r .raise .ensures)
     (k .before .before .before .served-with .ensures) (k .before .before .kw-with .ensures) (k .before .kw-with2 .ensures) (k .kw-with3 .ensures)
     (c .answer-with3 .ensures) (w .before .before .anew .ensures) (c .before .before .before .set-status .ensures) (w .rewrite .ensures)
 

@@ -8,6 +8,7 @@ use lib.IntN.{ℤ}
 use lib.ListN.{length}
 use Rattle.rows.specs.Row.{nth}
 use Rattle.quantity.specs.Signed.{posPart, negPart}
+use Rattle.quantity.proofs.Limits.{full-at-most}
 use Rattle.answer.specs.declared.Outcome.the-variants.{Accepted}
 use Rattle.answer.proofs.Refusals.{not-accepted}
 use Rattle.layout.specs.Book.{WellFormed}
@@ -53,47 +54,54 @@ prepared c = c .before .before .before .before .before
 abbrev based : tie.After-served → tie.After-base-flow
 based c = c .before .before .before .before .before
 
+abbrev rate : tie.After-enum-told → ℕ
+rate c = start c .args .percent
+
 -- ---- What holds there.
-ok : (c : tie.After-enum-told) → lentCheck (bytes c) (length (lent-flow c)) (length (lent-table c)) ≡ Accepted
+ok : (c : tie.After-enum-told) → lentCheck (rate c) (bytes c) (length (lent-flow c)) (length (lent-table c)) ≡ Accepted
 ok c = sym (c .before .before .check-lent .ensures) ∙ c .enum-told .given .1
 
-passes : (c : tie.After-enum-told) → Passed (bytes c) (length (lent-flow c)) (length (lent-table c))
+passes : (c : tie.After-enum-told) → Passed (rate c) (bytes c) (length (lent-flow c)) (length (lent-table c))
 passes c = passed (bytes c) (length (lent-flow c)) (length (lent-table c)) (ok c)
+
+full : (c : tie.After-enum-told) → rate c ≤ 100
+full c = full-at-most (passes c .in-range)
 
 well : (c : tie.After-enum-told) → WellFormed (bookOf (bytes c))
 well c = accepted-well (bytes c) (passes c .book)
 
-hold : (c : tie.After-prepare) → Held (normal (caseIn (bytes (told c)))) (made c .wires) (made c .served) (made c .live)
-hold c = held-live (bookOf (bytes (told c))) (well (told c)) _ (c .before .rows-of .ensures) (made c) (c .prepare .ensures)
+hold : (c : tie.After-prepare) → Held (normal (caseIn (rate (told c)) (bytes (told c)))) (made c .wires) (made c .served) (made c .live)
+hold c = held-live (bookOf (bytes (told c))) (well (told c)) _ (c .before .rows-of .ensures) (made c) (c .prepare .ensures) (full (told c))
 
 -- The same by the limits that a loss is judged by.
-hold-loss : (c : tie.After-prepare) → Held (caseIn (bytes (told c))) (made c .wires) (made c .served) (made c .brief)
-hold-loss c = held (bookOf (bytes (told c))) (well (told c)) _ (c .before .rows-of .ensures) (made c) (c .prepare .ensures)
+hold-loss : (c : tie.After-prepare) → Held (caseIn (rate (told c)) (bytes (told c))) (made c .wires) (made c .served) (made c .brief)
+hold-loss c = held (bookOf (bytes (told c))) (well (told c)) _ (c .before .rows-of .ensures) (made c) (c .prepare .ensures) (full (told c))
 
-gains : (c : tie.After-prepare) → nth (made c .gain) ≡ (λ i. posPart (caseIn (bytes (told c)) .injection i))
+gains : (c : tie.After-prepare) → nth (made c .gain) ≡ (λ i. posPart (caseIn (rate (told c)) (bytes (told c)) .injection i))
 gains c = gain-is (bookOf (bytes (told c))) (well (told c)) _ (c .before .rows-of .ensures) (made c) (c .prepare .ensures)
 
-loads : (c : tie.After-prepare) → nth (made c .load) ≡ (λ i. negPart (caseIn (bytes (told c)) .injection i))
+loads : (c : tie.After-prepare) → nth (made c .load) ≡ (λ i. negPart (caseIn (rate (told c)) (bytes (told c)) .injection i))
 loads c = load-is (bookOf (bytes (told c))) (well (told c)) _ (c .before .rows-of .ensures) (made c) (c .prepare .ensures)
 
 flow-room : (c : tie.After-prepare) → made c .wires .branches ≤ length (lent-flow (told c))
-flow-room c = omega (arith, hold c .branches-are, branches-of (bytes (told c)), passes (told c) .flow-room)
+flow-room c = omega (arith, hold c .branches-are, branches-of (rate (told c)) (bytes (told c)), passes (told c) .flow-room)
 
 table-room : (c : tie.After-prepare) → 52 * made c .wires .branches ≤ length (lent-table (told c))
-table-room c = omega (arith, hold c .branches-are, branches-of (bytes (told c)), passes (told c) .table-room)
+table-room c = omega (arith, hold c .branches-are, branches-of (rate (told c)) (bytes (told c)), passes (told c) .table-room)
 
 group-long : (c : tie.After-base-flow) → length (c .base-flow .result .group) ≡ 16
 group-long c = search needs
 
 -- The flow that is left, and the rows as its state.
 left : (c : tie.After-fill-flow)
-    → State (normal (caseIn (bytes (told (prepared (based (c .before .before) .before)))))) (on (c .fill-flow .last .0))
+    → State (normal (caseIn (rate (told (prepared (based (c .before .before) .before))))
+    (bytes (told (prepared (based (c .before .before) .before)))))) (on (c .fill-flow .last .0))
     (made (prepared (based (c .before .before) .before)) .wires)
     (made (prepared (based (c .before .before) .before)) .served) (made (prepared (based (c .before .before) .before)) .live) (based (c .before .before) .base-flow .result .latent)
 left c =
     let b = based (c .before .before) in
     let at = prepared (b .before) in
-    state-left (normal (caseIn (bytes (told at)))) refl _ _ _ _ _ (hold at) (gains at) (loads at) _ (b .base-flow .ensures) _ _
+    state-left (normal (caseIn (rate (told at)) (bytes (told at)))) refl _ _ _ _ _ (hold at) (gains at) (loads at) _ (b .base-flow .ensures) _ _
     (c .before .before .before .before .before .enum-told2 .given .1) (c .fill-flow .ensures)
 
 -- The same rows under the limits that a loss is judged by.
@@ -101,14 +109,15 @@ abbrev filled : tie.After-raise → tie.After-fill-flow
 filled c = c .before .before
 
 lifted : (c : tie.After-raise)
-    → State (caseIn (bytes (told (prepared (based (filled c .before .before) .before))))) (on (filled c .fill-flow .last .0))
+    → State (caseIn (rate (told (prepared (based (filled c .before .before) .before))))
+    (bytes (told (prepared (based (filled c .before .before) .before))))) (on (filled c .fill-flow .last .0))
     (made (prepared (based (filled c .before .before) .before)) .wires)
     (made (prepared (based (filled c .before .before) .before)) .served) (made (prepared (based (filled c .before .before) .before)) .brief)
     (c .raise .result)
 lifted c =
     let f = filled c in
     let at = prepared (based (f .before .before) .before) in
-    raised-state (caseIn (bytes (told at))) _ _ _ _ _ _ (left f) (hold-loss at) (c .raise .ensures)
+    raised-state (caseIn (rate (told at)) (bytes (told at))) _ _ _ _ _ _ (left f) (hold-loss at) (c .raise .ensures)
 
 -- ---- The needs.
 check-lent-requires : tie.Need-check-lent-requires
@@ -121,10 +130,10 @@ answer-with-requires : tie.Need-answer-with-requires
 answer-with-requires c κs = search needs
 
 returns : tie.Need-returns
-returns c = by-check _ _ _ _ (c .before .before .check-lent .ensures) (not-accepted _ (c .before .match .keys2)) (c .answer-with .ensures)
+returns c = by-check _ _ _ _ _ (c .before .before .check-lent .ensures) (not-accepted _ (c .before .match .keys2)) (c .answer-with .ensures)
 
 rows-of-requires : tie.Need-rows-of-requires
-rows-of-requires c κs = passes c .book
+rows-of-requires c κs = (passes c .book, full c)
 
 prepare-requires : tie.Need-prepare-requires
 prepare-requires c κs = plannable (bookOf _) (well (c .before)) _ (c .rows-of .ensures)
@@ -132,7 +141,7 @@ prepare-requires c κs = plannable (bookOf _) (well (c .before)) _ (c .rows-of .
 base-flow-requires : tie.Need-base-flow-requires
 base-flow-requires c κs =
     let at = prepared c in
-    basic (normal (caseIn (bytes (told at)))) refl _ _ _ _ _ (hold at) (gains at) (loads at)
+    basic (normal (caseIn (rate (told at)) (bytes (told at)))) refl _ _ _ _ _ (hold at) (gains at) (loads at)
 
 enum-known-verdict : tie.Need-enum-known-verdict
 enum-known-verdict c = search needs
@@ -141,9 +150,9 @@ returns-2 : tie.Need-returns-2
 returns-2 c =
     let b = c .before .before .before .before in
     let at = prepared (b .before) in
-    by-overload _ _ _ (ok (told at))
-    (overload-normal (caseIn (bytes (told at))) _
-    (overload (normal (caseIn (bytes (told at)))) refl _ _ _ _ _ (hold at) (gains at) (loads at) _ (b .base-flow .ensures) _
+    by-overload _ _ _ _ (ok (told at))
+    (overload-normal (caseIn (rate (told at)) (bytes (told at))) _
+    (overload (normal (caseIn (rate (told at)) (bytes (told at)))) refl _ _ _ _ _ (hold at) (gains at) (loads at) _ (b .base-flow .ensures) _
     (c .before .before .verdict .given .1) (group-long b)))
 
 enum-told-2 : tie.Need-enum-told-2
@@ -153,13 +162,14 @@ fill-flow-requires : tie.Need-fill-flow-requires
 fill-flow-requires c κs =
     let b = based (c .before) in
     let at = prepared (b .before) in
-    fillable (normal (caseIn (bytes (told at)))) refl _ _ _ _ _ (hold at) (gains at) (loads at) _ (b .base-flow .ensures) _ (flow-room at)
+    fillable (normal (caseIn (rate (told at)) (bytes (told at)))) refl _ _ _ _ _ (hold at) (gains at) (loads at) _ (b .base-flow .ensures) _
+    (flow-room at)
 
 raise-requires : tie.Need-raise-requires
 raise-requires c κs =
     let f = c .before in
     let at = prepared (based (f .before .before) .before) in
-    raisable (caseIn (bytes (told at))) _ _ _ _ _ _ (left f) (hold-loss at)
+    raisable (caseIn (rate (told at)) (bytes (told at))) _ _ _ _ _ _ (left f) (hold-loss at)
 
 rewrite-requires : tie.Need-rewrite-requires
 rewrite-requires c κs =
@@ -180,7 +190,7 @@ returns-3 c =
     let u = w .before .before in
     let at = prepared (based (filled u .before .before) .before) in
     let s = lifted u in
-    by-table _ _ _ (ok (told at)) _ (c .answer-with2 .ensures) (hold at .branches-are) (flow-room at) (filled u .fill-flow .ensures) (s .fits)
+    by-table _ _ _ _ (ok (told at)) _ (c .answer-with2 .ensures) (hold at .branches-are) (flow-room at) (filled u .fill-flow .ensures) (s .fits)
     (w .rewrite .ensures _ _ s) (s .held .posed .few-branches)
 
 pub screen-spec : {M : Type 1} → statement M

@@ -7,7 +7,7 @@ abbrev start : tie.After-rows-of → tie.Start
 start c = c .before .before
 
 rows-of-requires : tie.Need-rows-of-requires
-rows-of-requires c κs = c .before .pre .book
+rows-of-requires c κs = (c .before .pre .book, c .before .pre .full-at-most)
 
 prepare-requires : tie.Need-prepare-requires
 prepare-requires c κs =

@@ -20,7 +20,7 @@ start c = c .before .before .before .before .before
 abbrev bytes : tie.After-head-of → List ℕ
 bytes c = start c .args .book .now
 
-ok : (c : tie.After-head-of) → lentCheck (bytes c) (start c .args .flows) (start c .args .bytes) ≡ Accepted
+ok : (c : tie.After-head-of) → lentCheck (start c .args .percent) (bytes c) (start c .args .flows) (start c .args .bytes) ≡ Accepted
 ok c = sym (c .before .before .before .check-lent .ensures) ∙ c .before .enum-told .given .1
 
 range : (c : tie.After-head-of) → (c .head-of .result .buses ≤ 128) × (c .head-of .result .branches ≤ 256)
@@ -36,7 +36,7 @@ enum-told : tie.Need-enum-told
 enum-told c = search needs
 
 returns : tie.Need-returns
-returns c = by-lent _ _ _ _ _ _ _ (c .before .check-lent .ensures) (not-accepted _ (c .match .keys2))
+returns c = by-lent _ _ _ _ _ _ _ _ (c .before .check-lent .ensures) (not-accepted _ (c .match .keys2))
 
 head-of-requires : tie.Need-head-of-requires
 head-of-requires c κs = search needs
@@ -45,7 +45,8 @@ refuse-requires : tie.Need-refuse-requires
 refuse-requires c κs = search needs
 
 returns-2 : tie.Need-returns-2
-returns-2 c = let h = c .before .before .before in c .refuse .ensures ∙ by-branch _ _ _ _ _ _ (ok h) (omega (arith, c .before .if1 .taken, h .head-of .ensures .branches-are))
+returns-2 c = let h = c .before .before .before in c .refuse .ensures ∙ by-branch _ _ _ _ _ _ _ (ok h)
+    (omega (arith, c .before .if1 .taken, h .head-of .ensures .branches-are))
 
 branch-at-requires : tie.Need-branch-at-requires
 branch-at-requires c κs = let h = c .before .before in (range h .0, omega (arith, c .if1 .left, range h))
@@ -57,13 +58,15 @@ returns-3 : tie.Need-returns-3
 returns-3 c =
     let e = c .before .before .before .before in
     let h = e .before .before in
-    c .refuse2 .ensures ∙ by-status _ _ _ _ _ _ (ok h) (there e) _ _ _ (h .head-of .ensures .form-is) (h .head-of .ensures .buses-are) (c .before .before .before .branch-at .ensures) (c .before .if2 .taken)
+    c .refuse2 .ensures ∙ by-status _ _ _ _ _ _ _ (ok h) (there e) _ _ _ (h .head-of .ensures .form-is) (h .head-of .ensures .buses-are)
+    (c .before .before .before .branch-at .ensures) (c .before .if2 .taken)
 
 returns-4 : tie.Need-returns-4
 returns-4 c =
     let e = c .before .before .before in
     let h = e .before .before in
-    by-none _ _ _ _ _ _ (ok h) (there e) _ _ _ (h .head-of .ensures .form-is) (h .head-of .ensures .buses-are) (c .before .before .branch-at .ensures) (c .if2 .left)
+    by-none _ _ _ _ _ _ _ (ok h) (there e) _ _ _ (h .head-of .ensures .form-is) (h .head-of .ensures .buses-are)
+    (c .before .before .branch-at .ensures) (c .if2 .left)
 
 pub check-spec : {M : Type 1} → statement M
 check-spec =

@@ -10,13 +10,13 @@ use Rattle.trial.proofs.main.Statement.{statement}
 use Rattle.trial.proofs.main.Tie as tie
 
 abbrev Inv-loop : tie.InvT-loop
-Inv-loop input₀ book₀ flow₀ table₀ injections₀ branches₀ shelf₀ bytes₀ at₀ end₀ turns₀ t14
-    input book flow table injections branches shelf bytes at end turns =
-    (at ≤ end) × (end ≤ 65536) × (length input ≡ 65536) × (bytes ≤ 2100) × (length t14 ≡ 12)
+Inv-loop input₀ book₀ flow₀ table₀ injections₀ branches₀ shelf₀ bytes₀ percent₀ at₀ end₀ turns₀ t15
+    input book flow table injections branches shelf bytes percent at end turns =
+    (at ≤ end) × (end ≤ 65536) × (length input ≡ 65536) × (bytes ≤ 2100) × (length t15 ≡ 12)
 
 abbrev μ-loop : tie.MeasureT-loop
-μ-loop input₀ book₀ flow₀ table₀ injections₀ branches₀ shelf₀ bytes₀ at₀ end₀ turns₀ t14
-    input book flow table injections branches shelf bytes at end turns =
+μ-loop input₀ book₀ flow₀ table₀ injections₀ branches₀ shelf₀ bytes₀ percent₀ at₀ end₀ turns₀ t15
+    input book flow table injections branches shelf bytes percent at end turns =
     turns
 
 loop-holds : tie.Need-loop-holds Inv-loop μ-loop
@@ -31,17 +31,17 @@ ready-requires c κs = search needs
 returns : tie.Need-returns Inv-loop μ-loop
 returns c = tt
 
-sub-run : tie.Need-sub-run Inv-loop μ-loop
-sub-run c = omega arith
+sub-run-turn : tie.Need-sub-run-turn Inv-loop μ-loop
+sub-run-turn c = omega arith
 
-part-run-start : tie.Need-part-run-start Inv-loop μ-loop
-part-run-start c = omega arith
+part-run-turn-start : tie.Need-part-run-turn-start Inv-loop μ-loop
+part-run-turn-start c = omega arith
 
-part-run-end : tie.Need-part-run-end Inv-loop μ-loop
-part-run-end c = omega arith
+part-run-turn-end : tie.Need-part-run-turn-end Inv-loop μ-loop
+part-run-turn-end c = omega arith
 
-run-requires : tie.Need-run-requires Inv-loop μ-loop
-run-requires c κs = search needs
+run-turn-requires : tie.Need-run-turn-requires Inv-loop μ-loop
+run-turn-requires c κs = search needs
 
 slice-aggregate-write-all : tie.Need-slice-aggregate-write-all Inv-loop μ-loop
 slice-aggregate-write-all c = omega arith
@@ -63,17 +63,17 @@ loop-less c = omega arith
 
 loop-again : tie.Need-loop-again Inv-loop μ-loop
 loop-again c =
-    let run = c .before .before .before in
-    let ready = run .before .before .before .before .before .before .before .before .before .before .before in
+    let turn = c .before .before .before .before in
+    let ready = turn .before .before .before .before .before .before .before .before .before .before .before in
     let inv = ready .before .before .before .loop .inv in
     let w = ready .ready .result in
     let e = ready .ready .ensures in
     let long = ready .ready .kept .0 in
     let part : length (take (w .end - w .at) (drop (w .at) (ready .ready .last .0))) ≡ w .end - w .at = mid-len (w .at) (w .end) (ready .ready .last .0) (e .inside) in (
-      omega (arith, run .run .ensures .1 .0, part, e .more),
+      omega (arith, turn .run-turn .ensures .1 .0, part, e .more),
       omega (arith, e .inside, long, inv .2),
       long ∙ inv .2,
-      run .run .ensures .1 .1,
+      turn .run-turn .ensures .1 .1,
       inv .4,
     )
 
@@ -90,10 +90,10 @@ main-spec =
     slice-aggregate-ready
     ready-requires
     returns
-    sub-run
-    part-run-start
-    part-run-end
-    run-requires
+    sub-run-turn
+    part-run-turn-start
+    part-run-turn-end
+    run-turn-requires
     slice-aggregate-write-all
     write-all-requires
     returns-2

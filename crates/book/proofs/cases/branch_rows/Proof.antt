@@ -7,14 +7,14 @@ use Rattle.book.proofs.cases.branch_rows.Statement.{statement}
 use Rattle.book.proofs.cases.branch_rows.Tie as tie
 
 abbrev Inv-loop : tie.InvT-loop
-Inv-loop book form buses branches factor first₀ second₀ served₀ limit₀ loss₀ k₀ first second served limit loss k =
-    Branching form book buses branches factor first₀ second₀ served₀ limit₀ loss₀ first second served limit loss k
+Inv-loop percent book form buses branches factor first₀ second₀ served₀ limit₀ loss₀ k₀ first second served limit loss k =
+    Branching percent form book buses branches factor first₀ second₀ served₀ limit₀ loss₀ first second served limit loss k
 
 abbrev μ-loop : tie.MeasureT-loop
-μ-loop book form buses branches factor first₀ second₀ served₀ limit₀ loss₀ k₀ first second served limit loss k = branches - k
+μ-loop percent book form buses branches factor first₀ second₀ served₀ limit₀ loss₀ k₀ first second served limit loss k = branches - k
 
 loop-holds : tie.Need-loop-holds Inv-loop μ-loop
-loop-holds c = branching-start _ _ _ _ _ _ _ _ _ _
+loop-holds c = branching-start _ _ _ _ _ _ _ _ _ _ _
 
 branch-at-requires : tie.Need-branch-at-requires Inv-loop μ-loop
 branch-at-requires c κs = search needs
@@ -66,11 +66,11 @@ loop-again : tie.Need-loop-again Inv-loop μ-loop
 loop-again c =
     let x = c .before .before .before .before .before in
     let l = x .before in
-    branching-more _ _ _ _ _ _ _ _ _ _ _ _ _ _ (l .loop-test .taken) (l .before .before .before .pre .1) (l .before .loop .inv)
+    branching-more _ _ _ _ _ _ _ _ _ _ _ _ _ _ _ (l .loop-test .taken) (l .before .before .before .pre .1) (l .before .loop .inv)
     (x .branch-at .ensures) (c .before .limit-of .ensures) (c .loss-of .ensures)
 
 returns : tie.Need-returns Inv-loop μ-loop
-returns c = branching-end _ _ _ _ _ _ _ _ (c .loop-test .left) (c .before .loop .inv)
+returns c = branching-end _ _ _ _ _ _ _ _ _ (c .loop-test .left) (c .before .loop .inv)
 
 pub branch-rows-spec : {M : Type 1} → statement M
 branch-rows-spec =

@@ -78,10 +78,10 @@ returns-2 c =
     let back = call .bring-back in
     let start = asked .before .before .before .before .before .before in
     let n = asked .number-at3 .result .value in
-    let book = part-lent (start .pre .1) (back .kept .0) in
-    let table = part-lent (b .few) (back .kept .1 .1 .0) in
-    let came = called (BackEnds n) (back .result) book part-read table (g .both .first-is) (g .both .second-is) (back .ensures) in (
-      ran (g .fine) (g .end-is) (called-as BackEnds (g .third-is) came),
+    let book = part-lent (start .pre .1) (back .kept .1 .0) in
+    let table = part-lent (b .few) (back .kept .1 .1 .1 .0) in
+    let came = called (BackEnds _ n) (back .result) book part-read table (g .both .first-is) (g .both .second-is) (back .ensures) in (
+      ran (g .fine) (g .end-is) (called-as (BackEnds _) (g .third-is) came),
       k .within,
     )
 

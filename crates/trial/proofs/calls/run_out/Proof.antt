@@ -81,11 +81,11 @@ returns-2 c =
     let taken = call .take-out in
     let start = asked .before .before .before .before .before .before in
     let n = asked .number-at3 .result .value in
-    let book = part-lent (start .pre .1) (taken .kept .0) in
-    let flow = part-lent (a .few) (taken .kept .1 .0) in
-    let table = part-lent (b .few) (taken .kept .1 .1 .0) in
-    let out = called (TakeEnds n) (taken .result) book flow table (g .both .first-is) (g .both .second-is) (taken .ensures) in (
-      ran (g .fine) (g .end-is) (called-as TakeEnds (g .third-is) out),
+    let book = part-lent (start .pre .1) (taken .kept .1 .0) in
+    let flow = part-lent (a .few) (taken .kept .1 .1 .0) in
+    let table = part-lent (b .few) (taken .kept .1 .1 .1 .0) in
+    let out = called (TakeEnds _ n) (taken .result) book flow table (g .both .first-is) (g .both .second-is) (taken .ensures) in (
+      ran (g .fine) (g .end-is) (called-as (TakeEnds _) (g .third-is) out),
       k .within,
     )
 

@@ -71,9 +71,9 @@ returns-2 c =
     let b = asked .number-at2 .ensures in
     let g = both-good a b (call .before .before .before .before .if1 .left) in
     let screened = call .screen in
-    let flow = part-lent (a .few) (screened .kept .1 .0) in
-    let table = part-lent (b .few) (screened .kept .1 .1 .0) in (
-      ran (g .fine) (g .end-is) (called ScreenEnds (screened .result) part-read flow table (g .first-is) (g .second-is) (screened .ensures)),
+    let flow = part-lent (a .few) (screened .kept .1 .1 .0) in
+    let table = part-lent (b .few) (screened .kept .1 .1 .1 .0) in (
+      ran (g .fine) (g .end-is) (called (ScreenEnds _) (screened .result) part-read flow table (g .first-is) (g .second-is) (screened .ensures)),
       b .within,
     )
 
