@@ -1,17 +1,18 @@
 -- The percentage: 21 exactly where it is out of range, before all others; within its range no check looks at it; at 100 the limits are document
 -- 01's, and none falls as it rises.
 use mathlib.Core.Path.{_≡_, refl, sym, _∙_, subst}
-use mathlib.Core.Bool.{true, false}
+use mathlib.Core.Bool.{Bool, true, false}
 use mathlib.Core.List.{List, [], _∷_}
 use Prim.Native.Nat.{ℕ, _*_, _/_, _≤_}
 use native.Mathlib.Omega.{arith}
 use lib.ListN.{length}
 use Rattle.rows.specs.Row.{member}
-use Rattle.answer.specs.Answer.{numberOf, refusal, SaidBy}
+use Rattle.answer.specs.Answer.{numberOf, placeOf, refusal, SaidBy}
+use Rattle.answer.specs.declared.Place.the-variants.{At}
 use Rattle.answer.specs.declared.Outcome.{Outcome}
 use Rattle.answer.specs.declared.Outcome.the-variants.{Accepted}
 use Rattle.answer.specs.declared.Answer.{Answer}
-use Rattle.answer.proofs.Refusals.{refusal-stands}
+use Rattle.answer.proofs.Refusals.{refusal-stands, at-not-nowhere}
 use Rattle.answer.proofs.Numbers.{Gives, plain, inside, gives-not, gives-more}
 use Rattle.quantity.specs.Rating.{percentOut}
 use Rattle.quantity.proofs.Limits.{limit-full, limit-by-percent}
@@ -107,6 +108,15 @@ module _ {percent : ℕ} {before after : Lent} {r : Answer} where
   pub back-percent : {b : ℕ} → BackEnds percent b before after r → PercentFirst percent before after r
   unfolding member
   back-percent {b} e = ends-percent (branch-guarded _ _ _ _ b 1 17 refl refl) e
+
+-- An answer that has a place had a percentage in range, so that what is said of such an answer (WhereWrong.antt) is said of every one.
+pub placed-in-range : {percent : ℕ} {before after : Lent} {r : Answer} → PercentFirst percent before after r → {i j : ℕ}
+    → placeOf (r .outcome) ≡ At i j → percentOut percent ≡ false
+placed-in-range {percent} f e = go (percentOut percent) refl
+  where
+    go : (t : Bool) → percentOut percent ≡ t → percentOut percent ≡ false
+    go true o = absurd (at-not-nowhere (f .outside o .place-is) e)
+    go false o = o
 
 -- Two percentages within the range: the checks say the same.
 module _ (p q : ℕ) (one : percentOut p ≡ false) (two : percentOut q ≡ false) (bs : List ℕ) (flows bytes : ℕ) where

@@ -74,12 +74,8 @@ module _ (rest book : List ℕ) (bytes : ℕ) where
 
 -- ---- The percentage.
 module _ (rest : List ℕ) (percent : ℕ) where
-  pub percent-short : length rest < 2 → PercentSet rest percent (record { taken = 0; percent = percent })
-  percent-short h = record {
-    took = rw (lt-leb 2 (length rest) h) refl;
-    percent-is = rw (lt-leb 2 (length rest) h) refl;
-    within = omega arith;
-  }
+  pub percent-short : length rest < 2 → PercentSet rest percent percent 0
+  percent-short h = record { took = rw (lt-leb 2 (length rest) h) refl; left = rw (lt-leb 2 (length rest) h) refl }
 
-  pub percent-done : {p : ℕ} → 2 ≤ length rest → p ≡ nth rest 1 → PercentSet rest percent (record { taken = 2; percent = p })
-  percent-done h e = record { took = rw (le-leb 2 (length rest) h) refl; percent-is = rw (le-leb 2 (length rest) h) e; within = h }
+  pub percent-done : {p : ℕ} → 2 ≤ length rest → p ≡ nth rest 1 → PercentSet rest percent p 2
+  percent-done h e = record { took = rw (le-leb 2 (length rest) h) refl; left = rw (le-leb 2 (length rest) h) e }

@@ -8,7 +8,6 @@ use lib.IntN.{ℤ, pos}
 use lib.ListN.{length, set, replicate}
 use Rattle.rows.specs.Row.{nth, headed, twoAt}
 use Rattle.spaces.specs.declared.Next.{Next}
-use Rattle.spaces.specs.declared.Rated.{Rated}
 use Rattle.spaces.specs.InsideStream.{fourAt, signedFrom}
 
 -- The stream has the bytes of the command, and the space the place that it names.
@@ -56,7 +55,6 @@ pub record BookSet (rest book : List ℕ) (bytes : ℕ) (book′ : List ℕ) (r 
   pub within : (r .taken ≤ length rest) × (r .bytes ≤ length book)
 
 -- `Y`: the percentage is the byte after the letter; where the stream ends before it, the command takes no byte and changes nothing.
-pub record PercentSet (rest : List ℕ) (percent : ℕ) (r : Rated) : Type 0 where
-  pub took : r .taken ≡ cond (leb 2 (length rest)) 2 0
-  pub percent-is : r .percent ≡ cond (leb 2 (length rest)) (nth rest 1) percent
-  pub within : r .taken ≤ length rest
+pub record PercentSet (rest : List ℕ) (percent percent′ r : ℕ) : Type 0 where
+  pub took : r ≡ cond (leb 2 (length rest)) 2 0
+  pub left : percent′ ≡ cond (leb 2 (length rest)) (nth rest 1) percent

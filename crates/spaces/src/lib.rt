@@ -22,12 +22,6 @@ pub struct Next {
     pub bytes: usize,
 }
 
-// What `Y` took, and the percentage of the calls after it.
-pub struct Rated {
-    pub taken: usize,
-    pub percent: u32,
-}
-
 // Numbers that no call leaves by itself, so that what it does not write is seen.
 pub fn spoil(
     book: &mut [u8; 2100],
@@ -71,16 +65,15 @@ pub fn set_book(rest: &[u8], book: &mut [u8], bytes: usize) -> Next
 }
 
 // `Y`. Any byte is taken: the calls refuse what is out of range.
-pub fn set_percent(rest: &[u8], percent: u32) -> Rated
-    ensures { λ r. ⌜ PercentSet (now (rest .entry)) percent r ⌝ }
+pub fn set_percent(rest: &[u8], percent: &mut u32) -> usize
+    ensures { λ r. ⌜ PercentSet (now (rest .entry)) (now (percent .entry)) (now (percent .exit)) r ⌝ }
+    ensures { λ r. ⌜ r ≤ length (now (rest .entry)) ⌝ }
 {
     if rest.len() < 2 {
-        return Rated { taken: 0, percent };
+        return 0;
     }
-    Rated {
-        taken: 2,
-        percent: wide(rest[1]) as u32,
-    }
+    *percent = wide(rest[1]) as u32;
+    2
 }
 
 fn set_signed(rest: &[u8], space: &mut [i32]) -> usize

@@ -2,7 +2,7 @@
 ghost use Prim.Native.Nat.{_<_, _≤_};
 ghost use lib.ListN.{length};
 ghost use Rattle.state.specs.Call.{lent};
-ghost use Rattle.trial.specs.Inside.{Refilled, CommandRun, TurnRun};
+ghost use Rattle.trial.specs.Inside.{Refilled, CommandRun};
 
 mod calls;
 
@@ -55,7 +55,7 @@ fn ready(input: &mut [u8], at: usize, end: usize) -> Window
 // One command, at the start of the rest of the stream.
 fn run(
     rest: &[u8],
-    percent: u32,
+    percent: &mut u32,
     book: &mut [u8; 2100],
     bytes: usize,
     flow: &mut [i32; 256],
@@ -65,7 +65,7 @@ fn run(
     shelf: &mut [u8; 2100],
 ) -> Next
     requires { ⌜ (0 < length (now rest)) × (bytes ≤ 2100) ⌝ }
-    ensures { λ r. ⌜ CommandRun percent (now (rest .entry)) bytes (lent (now (book .entry)) (now (flow .entry)) (now (table .entry))) (lent (now (book .exit)) (now (flow .exit)) (now (table .exit))) (now (injections .entry)) (now (injections .exit)) (now (branches .entry)) (now (branches .exit)) (now (shelf .entry)) (now (shelf .exit)) r ⌝ }
+    ensures { λ r. ⌜ CommandRun (now (rest .entry)) (now (percent .entry)) (now (percent .exit)) bytes (lent (now (book .entry)) (now (flow .entry)) (now (table .entry))) (lent (now (book .exit)) (now (flow .exit)) (now (table .exit))) (now (injections .entry)) (now (injections .exit)) (now (branches .entry)) (now (branches .exit)) (now (shelf .entry)) (now (shelf .exit)) r ⌝ }
     ensures { λ r. ⌜ (r .taken ≤ length (now (rest .entry))) × (r .bytes ≤ 2100) ⌝ }
 {
     let letter = rest[0];
@@ -86,6 +86,10 @@ fn run(
         let taken = run_move(rest, book, bytes, shelf);
         return Next { taken, bytes };
     }
+    if letter == b'Y' {
+        let taken = set_percent(rest, percent);
+        return Next { taken, bytes };
+    }
     let set = set_place(rest, letter, flow, table, injections, branches);
     if 0 < set {
         return Next { taken: set, bytes };
@@ -93,7 +97,7 @@ fn run(
     let taken = run_call(
         rest,
         letter,
-        percent,
+        *percent,
         book,
         bytes,
         flow,
@@ -102,53 +106,6 @@ fn run(
         branches,
     );
     Next { taken, bytes }
-}
-
-// What a command took and left, and the percentage of those after it.
-struct Turn {
-    next: Next,
-    percent: u32,
-}
-
-// `Y`, or another command at the percentage that stands.
-fn run_turn(
-    rest: &[u8],
-    percent: u32,
-    book: &mut [u8; 2100],
-    bytes: usize,
-    flow: &mut [i32; 256],
-    table: &mut [u8; 13312],
-    injections: &mut [i32; 128],
-    branches: &mut [u32; 1280],
-    shelf: &mut [u8; 2100],
-) -> Turn
-    requires { ⌜ (0 < length (now rest)) × (bytes ≤ 2100) ⌝ }
-    ensures { λ r. ⌜ TurnRun percent (now (rest .entry)) bytes (lent (now (book .entry)) (now (flow .entry)) (now (table .entry))) (lent (now (book .exit)) (now (flow .exit)) (now (table .exit))) (now (injections .entry)) (now (injections .exit)) (now (branches .entry)) (now (branches .exit)) (now (shelf .entry)) (now (shelf .exit)) r ⌝ }
-    ensures { λ r. ⌜ (r .next .taken ≤ length (now (rest .entry))) × (r .next .bytes ≤ 2100) ⌝ }
-{
-    if rest[0] == b'Y' {
-        let rated = set_percent(rest, percent);
-        let next = Next {
-            taken: rated.taken,
-            bytes,
-        };
-        return Turn {
-            next,
-            percent: rated.percent,
-        };
-    }
-    let next = run(
-        rest,
-        percent,
-        book,
-        bytes,
-        flow,
-        table,
-        injections,
-        branches,
-        shelf,
-    );
-    Turn { next, percent }
 }
 
 // A proved loop has to end, and nothing says that a stream does: the turns are more than any stream has commands.
@@ -172,9 +129,9 @@ fn main() {
         if at == end {
             return;
         }
-        let turn = run_turn(
+        let next = run(
             &input[at..end],
-            percent,
+            &mut percent,
             &mut book,
             bytes,
             &mut flow,
@@ -183,14 +140,12 @@ fn main() {
             &mut branches,
             &mut shelf,
         );
-        let next = turn.next;
         if next.taken == 0 {
             io::write_all(STDOUT_FILENO, b"bad command\n");
             return;
         }
         at += next.taken;
         bytes = next.bytes;
-        percent = turn.percent;
         turns -= 1;
     }
 }

@@ -31,17 +31,17 @@ ready-requires c κs = search needs
 returns : tie.Need-returns Inv-loop μ-loop
 returns c = tt
 
-sub-run-turn : tie.Need-sub-run-turn Inv-loop μ-loop
-sub-run-turn c = omega arith
+sub-run : tie.Need-sub-run Inv-loop μ-loop
+sub-run c = omega arith
 
-part-run-turn-start : tie.Need-part-run-turn-start Inv-loop μ-loop
-part-run-turn-start c = omega arith
+part-run-start : tie.Need-part-run-start Inv-loop μ-loop
+part-run-start c = omega arith
 
-part-run-turn-end : tie.Need-part-run-turn-end Inv-loop μ-loop
-part-run-turn-end c = omega arith
+part-run-end : tie.Need-part-run-end Inv-loop μ-loop
+part-run-end c = omega arith
 
-run-turn-requires : tie.Need-run-turn-requires Inv-loop μ-loop
-run-turn-requires c κs = search needs
+run-requires : tie.Need-run-requires Inv-loop μ-loop
+run-requires c κs = search needs
 
 slice-aggregate-write-all : tie.Need-slice-aggregate-write-all Inv-loop μ-loop
 slice-aggregate-write-all c = omega arith
@@ -63,17 +63,17 @@ loop-less c = omega arith
 
 loop-again : tie.Need-loop-again Inv-loop μ-loop
 loop-again c =
-    let turn = c .before .before .before .before in
-    let ready = turn .before .before .before .before .before .before .before .before .before .before .before in
+    let run = c .before .before .before in
+    let ready = run .before .before .before .before .before .before .before .before .before .before .before .before in
     let inv = ready .before .before .before .loop .inv in
     let w = ready .ready .result in
     let e = ready .ready .ensures in
     let long = ready .ready .kept .0 in
     let part : length (take (w .end - w .at) (drop (w .at) (ready .ready .last .0))) ≡ w .end - w .at = mid-len (w .at) (w .end) (ready .ready .last .0) (e .inside) in (
-      omega (arith, turn .run-turn .ensures .1 .0, part, e .more),
+      omega (arith, run .run .ensures .1 .0, part, e .more),
       omega (arith, e .inside, long, inv .2),
       long ∙ inv .2,
-      turn .run-turn .ensures .1 .1,
+      run .run .ensures .1 .1,
       inv .4,
     )
 
@@ -90,10 +90,10 @@ main-spec =
     slice-aggregate-ready
     ready-requires
     returns
-    sub-run-turn
-    part-run-turn-start
-    part-run-turn-end
-    run-turn-requires
+    sub-run
+    part-run-start
+    part-run-end
+    run-requires
     slice-aggregate-write-all
     write-all-requires
     returns-2
