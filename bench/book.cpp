@@ -8,6 +8,20 @@ int Book::limit(int k) const {
     return b.served ? static_cast<int>(static_cast<int64_t>(b.kva) * power_factor / 1000) : 0;
 }
 
+bool Book::joined(int k) const {
+    std::vector<bool> reached(injections.size());
+    reached[branches[k].first] = true;
+    for (bool grown = true; grown;) {
+        grown = false;
+        for (int j = 0; j < count(); ++j) {
+            const Branch &b = branches[j];
+            if (j == k || !b.served || reached[b.first] == reached[b.second]) continue;
+            reached[b.first] = reached[b.second] = grown = true;
+        }
+    }
+    return reached[branches[k].second];
+}
+
 namespace {
 
 class Packer {

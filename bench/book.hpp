@@ -21,6 +21,8 @@ struct Book {
     int count() const { return static_cast<int>(branches.size()); }
     // In kW; a branch out of service has none.
     int limit(int k) const;
+    // Whether other branches in service join the ends of branch k, whatever their limits.
+    bool joined(int k) const;
 };
 
 std::vector<uint8_t> packed(const Book &book);

@@ -18,7 +18,9 @@ const std::vector<Peer> &Comparison::peers() {
 }
 
 Comparison::Comparison(const Book &book)
-    : book_(book), lent_(packed(book), book.count()), ours_(shown(proved_screen(lent_), lent_)), peers_(peers().size()) {}
+    : book_(book), lent_(packed(book), book.count()), ours_(shown(proved_screen(lent_), lent_)), peers_(peers().size()) {
+    check_islands();
+}
 
 void Comparison::round() {
     proved_.add(microseconds([&] { proved_screen(lent_); }));
@@ -31,7 +33,7 @@ void Comparison::round() {
 
 int Comparison::shorts() const {
     int count = 0;
-    for (const Verdict &verdict : ours_.losses) count += verdict.kind == Kind::is_short;
+    for (const Verdict &verdict : ours_.losses) count += misses(verdict);
     return count;
 }
 
@@ -46,7 +48,10 @@ size_t Comparison::fastest() const {
 void Comparison::check_same(const Peer &peer, const Screened &theirs) const {
     bool same = ours_.base == theirs.base;
     for (int k = 0; k < book_.count(); ++k) {
-        if (ours_.losses[k] == theirs.losses[k]) continue;
+        // A maximum flow doesn't tell which loss would island.
+        Verdict ours = ours_.losses[k];
+        if (ours.kind == Kind::islands) ours.kind = Kind::is_short;
+        if (ours == theirs.losses[k]) continue;
         std::fprintf(stderr, "branch %d: %d kW proved, %d kW by the peer, or another group\n", k,
                      ours_.losses[k].shortage, theirs.losses[k].shortage);
         same = false;
@@ -54,4 +59,13 @@ void Comparison::check_same(const Peer &peer, const Screened &theirs) const {
     if (same) return;
     std::fprintf(stderr, "%s: the proved screen and the peer differ (%s)\n", book_.name.c_str(), peer.name);
     std::exit(1);
+}
+
+void Comparison::check_islands() const {
+    for (int k = 0; k < book_.count(); ++k) {
+        if (!misses(ours_.losses[k]) || (ours_.losses[k].kind == Kind::islands) == !book_.joined(k)) continue;
+        std::fprintf(stderr, "%s: branch %d is shown as islanding and is joined, or the other way round\n",
+                     book_.name.c_str(), k);
+        std::exit(1);
+    }
 }

@@ -26,6 +26,7 @@ class Comparison {
 
   private:
     void check_same(const Peer &peer, const Screened &theirs) const;
+    void check_islands() const;
 
     Book book_;
     Lent lent_;

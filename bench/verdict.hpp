@@ -9,13 +9,15 @@ using Group = std::array<uint8_t, 16>;
 
 inline void add_bus(Group &group, int bus) { group[bus / 8] |= 0x80 >> bus % 8; }
 
-enum class Kind : uint8_t { out, carries, is_short };
+enum class Kind : uint8_t { out, carries, is_short, islands };
 
 struct Verdict {
     Kind kind = Kind::out;
     int shortage = 0;
     Group group{};
 };
+
+inline bool misses(const Verdict &verdict) { return verdict.kind == Kind::is_short || verdict.kind == Kind::islands; }
 
 struct Screened {
     Verdict base;

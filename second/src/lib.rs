@@ -2,8 +2,8 @@
 //!
 //! A folder imports only from folders named above it here; `tests/folders.rs` holds that.
 
-/// What the papers define: books of either form, the percentage of a call, networks, verdicts, records, calls with their refusals
-/// and where a book is wrong, meters, the list.
+/// What the papers define: books of either form, the percentage of a call, networks, verdicts, what joins two buses, records,
+/// calls with their refusals and where a book is wrong, meters, the list.
 pub mod definitions {
     pub mod answer;
     pub mod bits;
@@ -24,6 +24,7 @@ pub mod definitions {
     pub mod outage;
     pub mod percentage;
     pub mod place;
+    pub mod reach;
     pub mod record;
     pub mod reroutes;
     pub mod screen;
@@ -34,12 +35,14 @@ pub mod definitions {
 
 /// Books to try: those with a name, those of source document 001, random ones, and the text form of any.
 pub mod books {
+    pub mod islands;
     pub mod named;
     pub mod percentages;
     pub mod plain;
     pub mod random;
     pub mod random_books;
     pub mod random_forms;
+    pub mod random_islands;
     pub mod random_percentages;
     pub mod random_ratings;
     pub mod ratings;
@@ -62,6 +65,7 @@ pub mod streams {
     pub mod gate;
     pub mod make;
     pub mod make_forms;
+    pub mod make_islands;
     pub mod make_percentages;
     pub mod make_places;
     pub mod make_ratings;
@@ -70,6 +74,7 @@ pub mod streams {
     pub mod make_written;
     pub mod stored;
     pub mod stored_forms;
+    pub mod stored_islands;
     pub mod stored_percentages;
     pub mod stored_places;
     pub mod stored_ratings;
@@ -82,11 +87,13 @@ pub mod judging {
     pub mod accepted;
     pub mod faults;
     pub mod faults_forms;
+    pub mod faults_islands;
     pub mod faults_percentages;
     pub mod faults_places;
     pub mod faults_ratings;
     pub mod faults_returns;
     pub mod forms;
+    pub mod islands;
     pub mod judge;
     pub mod misread;
     pub mod moved;

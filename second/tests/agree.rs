@@ -15,7 +15,7 @@ use second::definitions::{cuts, groups};
 #[test]
 fn both_methods_agree_on_small_books() {
     let mut random = Random(1);
-    let (mut overloaded, mut shorts, mut carries) = (0, 0, 0);
+    let (mut overloaded, mut shorts, mut islanding, mut carries) = (0, 0, 0, 0);
     for round in 0..6000 {
         let buses = 1 + random.below(if round % 10 == 0 { 12 } else { 7 });
         let count = random.below(2 * buses + 3);
@@ -39,11 +39,13 @@ fn both_methods_agree_on_small_books() {
             match verdict {
                 Verdict::Carries => carries += 1,
                 Verdict::Short(_) => shorts += 1,
+                Verdict::Islands(_) => islanding += 1,
                 Verdict::Out => {}
             }
         }
     }
-    assert!(overloaded > 300 && shorts > 3000 && carries > 3000, "{overloaded} {shorts} {carries}");
+    let enough = overloaded > 300 && shorts > 1000 && islanding > 2000 && carries > 3000;
+    assert!(enough, "{overloaded} {shorts} {islanding} {carries}");
 }
 
 #[test]

@@ -50,6 +50,11 @@ fn the_stored_stream_begins_as_it_did_before_percentages_came() {
     begins_as(44_145, 0x86b5_83a2_58fe_7d9d);
 }
 
+#[test]
+fn the_stored_stream_begins_as_it_did_before_branches_islanded() {
+    begins_as(52_727, 0xba27_922b_268f_edff);
+}
+
 /// The stream of then, so many bytes, ended in a bad command of 3 bytes, which stops a stream and so is still the last.
 fn begins_as(length: usize, print: u64) {
     let stream = stored::stream();

@@ -13,8 +13,16 @@ use second::definitions::percentage::NAMEPLATE;
 use second::definitions::switching::Lent;
 use second::definitions::{cuts, groups, list, record, screen};
 
+fn excess(amount: i64, buses: &[usize]) -> Excess {
+    Excess { amount, group: buses.iter().fold(0, |group, bus| group | 1 << bus) }
+}
+
 fn short(amount: i64, buses: &[usize]) -> Verdict {
-    Verdict::Short(Excess { amount, group: buses.iter().fold(0, |group, bus| group | 1 << bus) })
+    Verdict::Short(excess(amount, buses))
+}
+
+fn islands(amount: i64, buses: &[usize]) -> Verdict {
+    Verdict::Islands(excess(amount, buses))
 }
 
 fn shows(book: &Book, due: &[Verdict]) {
@@ -52,7 +60,8 @@ fn a_triangle_all_carry() {
 
 #[test]
 fn b_triangle_with_branch_0_out() {
-    let due = [Verdict::Out, short(30, &[0]), short(10, &[0, 2])];
+    let due = [Verdict::Out, islands(30, &[0]), islands(10, &[0, 2])];
+    assert_eq!(list::list(&pack(&with_out(triangle(30), 0))), "3 3\n0 out\n1 islands 30 1 0\n2 islands 10 2 0 2\n");
     shows(&with_out(triangle(30), 0), &due);
     let bytes = pack(&triangle(30));
     let (flow, table) = fresh(&bytes);
@@ -93,8 +102,8 @@ fn d_and_e_one_kw_decides() {
 
 #[test]
 fn f_to_i_the_second_book() {
-    shows(&second_book(25), &[short(20, &[0]), short(35, &[0, 1]), short(20, &[0, 1]), short(20, &[0, 1, 2])]);
-    let due = "4 4\n0 short 20 1 0\n1 short 35 2 0 1\n2 short 20 2 0 1\n3 short 20 3 0 1 2\n";
+    shows(&second_book(25), &[short(20, &[0]), short(35, &[0, 1]), short(20, &[0, 1]), islands(20, &[0, 1, 2])]);
+    let due = "4 4\n0 short 20 1 0\n1 short 35 2 0 1\n2 short 20 2 0 1\n3 islands 20 3 0 1 2\n";
     assert_eq!(list::list(&pack(&second_book(25))), due);
 }
 

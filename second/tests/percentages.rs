@@ -86,7 +86,7 @@ fn limits_grow_with_the_percentage_and_with_the_rating() {
 
 #[test]
 fn the_list_is_at_100() {
-    assert_eq!(list::list(&pack(&summer(1, 952))), "2 1\n0 short 952 1 0\n");
+    assert_eq!(list::list(&pack(&summer(1, 952))), "2 1\n0 islands 952 1 0\n");
     assert_eq!(list::list(&pack(&summer(1, 953))), "refused 12 1 1 0\n");
     assert_eq!(list::list(&pack(&summer(2, 952))), "2 2\n0 carries\n1 carries\n");
 }
@@ -253,8 +253,7 @@ fn both_methods_agree_at_every_percentage() {
         for branch in (0..network.lines.len()).filter(|_| excess.amount == 0) {
             let verdict = groups::verdict(&network, branch);
             assert_eq!(verdict, cuts::verdict(&network, branch), "branch {branch} of {book:?}");
-            (shorts, carries) =
-                (shorts + matches!(verdict, Verdict::Short(_)) as usize, carries + (verdict == Verdict::Carries) as usize);
+            (shorts, carries) = (shorts + verdict.excess().is_some() as usize, carries + (verdict == Verdict::Carries) as usize);
         }
     }
     assert!(overloaded > 50 && shorts > 1000 && carries > 1000, "{overloaded} {shorts} {carries}");

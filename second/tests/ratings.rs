@@ -188,7 +188,7 @@ fn the_list_is_by_the_second_limits() {
     let lines = |book: &Book| list::list(&pack(book));
     assert_eq!(lines(&triangle_two()), "3 3\n0 carries\n1 carries\n2 carries\n");
     assert_eq!(lines(&ring_two()), "3 3\n0 short 10 2 0 1\n1 carries\n2 carries\n");
-    assert_eq!(lines(&second_two()), "4 4\n0 carries\n1 short 35 2 0 1\n2 carries\n3 short 20 3 0 1 2\n");
+    assert_eq!(lines(&second_two()), "4 4\n0 carries\n1 short 35 2 0 1\n2 carries\n3 islands 20 3 0 1 2\n");
     assert_eq!(lines(&moved_up(second_book(25))), lines(&second_book(25)));
     // One branch's own second rating doesn't help it.
     assert_eq!(lines(&with_seconds(triangle(19), &[(1, 1_000_000)])), lines(&triangle(19)));
@@ -241,11 +241,11 @@ fn what_a_record_shows_bounds_the_answer() {
             let (shown, due) = (groups::verdict(&network, branch), groups::base_excess(&network.without(branch)));
             let answer = if due.amount > 0 { Answer::overloaded(due) } else { Answer::ACCEPTED };
             assert_eq!(agrees(&network, &record::bytes(shown, &[]), answer), Ok(()));
-            match shown {
-                Verdict::Short(shown) => {
+            match shown.excess() {
+                Some(shown) => {
                     (other, more) = (other + (shown.group != due.group) as usize, more + (shown.amount < due.amount) as usize)
                 }
-                _ => carrying += (due.amount > 0) as usize,
+                None => carrying += (due.amount > 0) as usize,
             }
             equal += !book.ratings_differ() as usize;
         }

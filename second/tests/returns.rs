@@ -18,6 +18,12 @@ fn short(amount: i64, buses: &[usize]) -> [u8; SIZE] {
     record::bytes(Verdict::Short(Excess { amount, group }), &[])
 }
 
+fn islands(amount: i64, buses: &[usize]) -> [u8; SIZE] {
+    let mut bytes = short(amount, buses);
+    bytes[0] = 3;
+    bytes
+}
+
 fn carries(named: &[usize]) -> [u8; SIZE] {
     record::bytes(Verdict::Carries, named)
 }
@@ -50,7 +56,7 @@ fn triangle_branch_0_out_and_back() {
     let network = outage::allowed(&lent, 0).unwrap();
     let (after, left) = outage::own_result(&network, &lent, 0);
     assert_eq!(after, [0, 30, -10]);
-    assert_eq!(left, [[0; SIZE], short(30, &[0]), short(10, &[0, 2])].concat());
+    assert_eq!(left, [[0; SIZE], islands(30, &[0]), islands(10, &[0, 2])].concat());
     // Back: the flow stays on 0-2 and 1-2. Without 0-2 it is 30, 0, 20, without 1-2 it is 10, 20, 0, and no other fits.
     let back = brought_back(&with_out(book, 0), &after, &left, 0);
     assert_eq!(back, [carries(&[]), carries(&[0, 2]), carries(&[0, 1])].concat());
@@ -60,7 +66,7 @@ fn triangle_branch_0_out_and_back() {
 #[test]
 fn second_book_and_a_feeder_that_comes_back() {
     let (book, flow) = (with_out(second_and_feeder(), 4), [20, 40, 20, 20, 0]);
-    let shorts = [short(20, &[0]), short(35, &[0, 1]), short(20, &[0, 1]), short(20, &[0, 1, 2])];
+    let shorts = [short(20, &[0]), short(35, &[0, 1]), short(20, &[0, 1]), islands(20, &[0, 1, 2])];
     let table = [shorts.concat(), vec![0; SIZE]].concat();
     let left = brought_back(&book, &flow, &table, 4);
     assert_eq!(left[..2 * SIZE], [shorts[0], short(20, &[0])].concat());

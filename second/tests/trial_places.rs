@@ -156,7 +156,7 @@ fn the_stored_stream_grew_by_45_refusals_with_a_place() {
 #[test]
 fn random_streams_hold_every_field_at_fault() {
     let mut places = Places::default();
-    for seed in 1..=400 {
+    for seed in 1..=800 {
         output_with(&make::stream(seed), &mut |done| {
             if matches!(done.command.answer_in(done.lines), Some(4 | 5)) {
                 places.count(done.command, done.before);
@@ -167,8 +167,8 @@ fn random_streams_hold_every_field_at_fault() {
         for call in CALLS {
             // A hundred in 5,000 streams for the reader and the writer, and some for the others.
             let asked = match call {
-                "read" | "write" => 8,
-                "moved" => 1,
+                "read" | "write" => 16,
+                "moved" => 2,
                 _ => 0,
             };
             for wrong in possible(call, form) {

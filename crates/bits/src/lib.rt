@@ -61,7 +61,7 @@ pub fn put(out: &mut [u8], at: usize, width: usize, v: u32)
 pub fn is_set(row: &[u8], k: usize) -> bool
     ensures { λ r. ⌜ r ≡ has (now (row .entry)) k ⌝ }
 {
-    field(row, k, 1) == 1
+    (byte(row, k / 8) >> (7 - k % 8) as u32) % 2 == 1
 }
 
 // How many bits of a group are 1, by the processor's own count of set bits, byte by byte.

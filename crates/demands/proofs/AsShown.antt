@@ -18,11 +18,12 @@ use Rattle.bits.specs.Field.{Bytes}
 use Rattle.layout.specs.Layout.{branchesIn, bookOf}
 use Rattle.verdict.specs.Case.{Case, Posed, out, on}
 use Rattle.verdict.specs.Excess.{NoExcess}
-use Rattle.verdict.specs.Record.{recordAt, verdictIn, shortageIn, groupIn, Told, is-out, carries, short, TrueRecord}
+use Rattle.verdict.specs.Record.{recordAt, verdictIn, SaysShort, shortageIn, groupIn, Told, is-out, carries, short, TrueRecord}
 use Rattle.verdict.specs.Update.{Lent}
 use Rattle.verdict.proofs.Fitting.{fits-none}
 use Rattle.verdict.proofs.Loss.{Level, short-overload, carries-spare, never-overload}
 use Rattle.verdict.proofs.Normal.{spare-carries, short-at-most}
+use Rattle.verdict.proofs.Islanding.{number-above}
 use Rattle.verdict.proofs.Shown.{carries-exactly, short-shows}
 use Rattle.forms.proofs.MovedBook.{Equal}
 use Rattle.state.specs.Case.{caseIn}
@@ -49,7 +50,7 @@ module _ (rec : List ℕ) (long : length rec ≡ 52) (bytes : Bytes rec) where
 -- What a true record of a branch in service says of the case without it.
 data Without (C : Case) (b : ℕ) (rec : List ℕ) : Type 0 where
   spared : verdictIn rec ≡ 1 → NoExcess (out C b) → Without C b rec
-  missed : verdictIn rec ≡ 2 → OverloadSaid (out C b) (overloaded (shortageIn rec) (shownGroup rec)) → Without C b rec
+  missed : SaysShort rec → OverloadSaid (out C b) (overloaded (shortageIn rec) (shownGroup rec)) → Without C b rec
 
 without : (C : Case) (f : ℕ → ℤ) (b : ℕ) (rec : List ℕ) → Posed C → NoExcess C → Level C → C .served b ≡ true → TrueRecord C f b rec → Without C b rec
 without C f b rec p h l i t = go (t .told)
@@ -57,7 +58,7 @@ without C f b rec p h l i t = go (t .told)
     go : Told C f b rec → Without C b rec
     go (is-out o v z) = absurd (true≢false (sym i ∙ o))
     go (carries o c v z m) = spared v (carries-spare C b p h l .0 c)
-    go (short o s v z) = missed v (record {
+    go (short o s v z) = missed (number-above v) (record {
       shortage = shortageIn rec;
       group = shownGroup rec;
       answer = said-overloaded (shortageIn rec) (shownGroup rec);
@@ -84,7 +85,7 @@ module _ {percent : ℕ} {now : Lent} (run : Run percent now) {after : Lent} {b 
       (fits-none (out C b) (on (after .flow)) (posed-out run e there in-service) (take-done e a .took .updated .fits)))
 
   -- Shown as short by v: refused with 12, and by v or more.
-  pub short-refused : verdictIn rec ≡ 2 → (numberOf (r .outcome) ≡ 12) × (shortageIn rec ≤ shortageOf (r .outcome))
+  pub short-refused : SaysShort rec → (numberOf (r .outcome) ≡ 12) × (shortageIn rec ≤ shortageOf (r .outcome))
   short-refused v = go e
     where
       go : TakeEnds percent b now after r → (numberOf (r .outcome) ≡ 12) × (shortageIn rec ≤ shortageOf (r .outcome))
@@ -114,7 +115,7 @@ module _ {percent : ℕ} {now : Lent} (run : Run percent now) {after : Lent} {b 
     -- Which of the two it is.
     data Which : Type 0 where
       was-carrying : verdictIn rec ≡ 1 → r ≡ accepted → Which
-      was-short : verdictIn rec ≡ 2 → r ≡ overloaded (shortageIn rec) (shownGroup rec) → Which
+      was-short : SaysShort rec → r ≡ overloaded (shortageIn rec) (shownGroup rec) → Which
 
     which : Which
     which = go says e
@@ -134,7 +135,7 @@ module _ {percent : ℕ} {now : Lent} (run : Run percent now) {after : Lent} {b 
       | was-short v o ↦ (λ q. absurd (never-accepted (number-of o) (λ z. omega arith) q), λ q. absurd (omega arith))
     ]
 
-    pub refused-as-shown : (r ≡ overloaded (shortageIn rec) (take 16 (drop 4 rec))) ↔ (verdictIn rec ≡ 2)
+    pub refused-as-shown : (r ≡ overloaded (shortageIn rec) (take 16 (drop 4 rec))) ↔ SaysShort rec
     refused-as-shown = elim which [
       | was-carrying v a ↦ (λ q. absurd (never-accepted (number-of q) (λ z. omega arith) a), λ q. absurd (omega arith))
       | was-short v o ↦ (λ q. v, λ q. o)

@@ -15,7 +15,7 @@ use Rattle.answer.specs.declared.Answer.{Answer}
 use Rattle.grid.proofs.Net.{gains, loads, ratings}
 use Rattle.verdict.specs.Case.{Case, Posed, out, on, Fits}
 use Rattle.verdict.specs.Excess.{P, R, RWithout, oneEnd, excess, excessWithout, NoExcess, Overload, Carries, Short}
-use Rattle.verdict.specs.Record.{recordAt, verdictIn, shortageIn, groupIn, Zero, TrueRecord}
+use Rattle.verdict.specs.Record.{recordAt, verdictIn, SaysShort, shortageIn, groupIn, Zero, TrueRecord}
 use Rattle.verdict.specs.Update.{Lent}
 use Rattle.verdict.proofs.Plain.{base, excess-above, no-excess-plain, overload-plain}
 use Rattle.verdict.proofs.Fitting.{fits-none}
@@ -46,27 +46,27 @@ module _ {percent : ℕ} {before after : Lent} {r : Answer} (e : ScreenEnds perc
     out-exactly = told.out-exactly C posed-case (on (after .flow)) k rec is-true
 
     -- Short: the shortage is the largest excess, and the group the smallest surplus group having it.
-    pub short-shows : verdictIn rec ≡ 2 → Short C k (shortageIn rec) (groupIn rec)
+    pub short-shows : SaysShort rec → Short C k (shortageIn rec) (groupIn rec)
     short-shows = told.short-shows C posed-case (on (after .flow)) k rec is-true
 
     -- It is a surplus group, and no group of either sign has more.
-    pub short-surplus : verdictIn rec ≡ 2 → pos 0 <ℤ P C (groupIn rec)
+    pub short-surplus : SaysShort rec → pos 0 <ℤ P C (groupIn rec)
     short-surplus v = told.short-surplus C k (shortageIn rec) (groupIn rec) (short-shows v)
 
-    pub short-either-way : verdictIn rec ≡ 2 → (T : Group) → oneEnd C k T ≡ true → natAbs (P C T) ≤ RWithout C k T + shortageIn rec
+    pub short-either-way : SaysShort rec → (T : Group) → oneEnd C k T ≡ true → natAbs (P C T) ≤ RWithout C k T + shortageIn rec
     short-either-way v = told.both-ways C k (shortageIn rec) posed-case (short-shows v .largest)
 
     -- Otherwise neither is shown: bytes 1 to 19 are 0.
-    pub else-zero : (verdictIn rec ≡ 2 → ⊥) → Zero rec 1 20
+    pub else-zero : (SaysShort rec → ⊥) → Zero rec 1 20
     else-zero = told.else-zero C posed-case (on (after .flow)) k rec is-true
 
     module _ (in-service : C .served k ≡ true) where
-      -- 2 exactly if some group holding exactly one of its ends has a surplus above what the other branches leaving the group may carry.
-      pub short-exactly : (verdictIn rec ≡ 2) ↔ ((S : Group) × (oneEnd C k S ≡ true) × (pos (RWithout C k S) <ℤ P C S))
+      -- 2 or 3 exactly if some group holding exactly one of its ends has a surplus above what the other branches leaving the group may carry.
+      pub short-exactly : SaysShort rec ↔ ((S : Group) × (oneEnd C k S ≡ true) × (pos (RWithout C k S) <ℤ P C S))
       short-exactly = told.short-exactly C posed-case (on (after .flow)) k rec is-true in-service
 
       -- Deficit groups count too, and it is the same: a deficit group's rest has the same surplus.
-      pub short-either : (verdictIn rec ≡ 2) ↔ ((S : Group) × (oneEnd C k S ≡ true) × (RWithout C k S < natAbs (P C S)))
+      pub short-either : SaysShort rec ↔ ((S : Group) × (oneEnd C k S ≡ true) × (RWithout C k S < natAbs (P C S)))
       short-either = told.short-either C posed-case (on (after .flow)) k rec is-true in-service
 
       -- 1 exactly if none has.
@@ -74,7 +74,7 @@ module _ {percent : ℕ} {before after : Lent} {r : Answer} (e : ScreenEnds perc
       carries-exactly = told.carries-exactly C posed-case (on (after .flow)) k rec is-true in-service
 
       -- A branch in service carries or is short, and not both.
-      pub one-of-two : (verdictIn rec ≡ 1) ⊎ (verdictIn rec ≡ 2)
+      pub one-of-two : (verdictIn rec ≡ 1) ⊎ SaysShort rec
       one-of-two = told.one-of-two C posed-case (on (after .flow)) k rec is-true in-service
 
       pub not-both : Carries C k → (v : ℕ) (S : Group) → Short C k v S → ⊥

@@ -22,6 +22,7 @@ use Rattle.verdict.specs.Record.{recordAt, verdictIn, Told, is-out, carries, sh
 use Rattle.verdict.specs.Update.{Lent, Shortlisted}
 use Rattle.verdict.proofs.Fitting.{posed-status}
 use Rattle.verdict.proofs.Loss.{Level}
+use Rattle.verdict.proofs.Islanding.{number-above}
 use Rattle.verdict.proofs.Keep.{stable}
 use Rattle.verdict.proofs.VerdictByCase.{tables-agree}
 use Rattle.forms.proofs.MovedBook.{Equal}
@@ -90,7 +91,7 @@ run-stands (returned b run e a) = back-stands (run-stands run) e a
 carried-by : (C : Case) (f : ℕ → ℤ) (b : ℕ) (rec : List ℕ) → Told C f b rec → verdictIn rec ≡ 1 → Rerouted C f b rec
 carried-by C f b rec (is-out i v z) e = absurd (omega arith)
 carried-by C f b rec (carries i c v z m) e = m
-carried-by C f b rec (short i s v z) e = absurd (omega arith)
+carried-by C f b rec (short i s v z) e = absurd (omega (arith, number-above v))
 
 fits-level : (C : Case) (b : ℕ) (h : ℕ → ℤ) → Level C → Fits (out C b) (C .loss-limit) h → Fits (out C b) (C .limit) h
 fits-level C b h l w = subst (λ (m : ℕ → ℕ). Fits (out C b) m h) l w

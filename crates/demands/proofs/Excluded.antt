@@ -14,7 +14,7 @@ use Rattle.layout.specs.Layout.{statusBit}
 use Rattle.book.proofs.StatusSet.{status-set}
 use Rattle.verdict.specs.Case.{Case, out, on, Fits}
 use Rattle.verdict.specs.Excess.{Short}
-use Rattle.verdict.specs.Record.{recordAt, verdictIn, shortageIn, groupIn, names, TrueRecord, TrueTable}
+use Rattle.verdict.specs.Record.{recordAt, verdictIn, SaysShort, shortageIn, groupIn, names, TrueRecord, TrueTable}
 use Rattle.verdict.specs.Update.{Lent, Shortlisted, not-served, not-carrying, is-touched}
 use Rattle.verdict.proofs.Fitting.{served-self, posed-status}
 use Rattle.verdict.proofs.Shown as told
@@ -48,7 +48,7 @@ module _ {percent : ℕ} {before after : Lent} {b : ℕ} {r : Answer} (e : TakeE
       true≢false (sym (d .passes .in-service) ∙ told.out-exactly C (d .posed-case) (on (before .flow)) b (recordAt (before .table) b) (t .each b u) .0 was)
 
   -- One that takes a short branch's old record over: what stands there after the call is what the changed book defines.
-  pub short-anew : r ≡ accepted → (k : ℕ) → k < C .branches → verdictIn (recordAt (before .table) k) ≡ 2 → verdictIn (recordAt (after .table) k) ≡ 2
+  pub short-anew : r ≡ accepted → (k : ℕ) → k < C .branches → SaysShort (recordAt (before .table) k) → SaysShort (recordAt (after .table) k)
       → Short (out C b) k (shortageIn (recordAt (after .table) k)) (groupIn (recordAt (after .table) k))
   short-anew a k u v v′ =
       let d = take-done e a in

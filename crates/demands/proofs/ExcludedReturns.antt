@@ -13,7 +13,7 @@ use Rattle.bits.specs.Field.{OneBit}
 use Rattle.layout.specs.Layout.{busesIn, branchesIn, formIn, statusBit, branchAt}
 use Rattle.book.proofs.StatusSet.{status-set}
 use Rattle.verdict.specs.Case.{Case, back, on, Fits}
-use Rattle.verdict.specs.Record.{recordAt, verdictIn, TrueRecord}
+use Rattle.verdict.specs.Record.{recordAt, verdictIn, SaysShort, TrueRecord}
 use Rattle.verdict.specs.Update.{Lent}
 use Rattle.state.specs.Case.{caseIn}
 use Rattle.state.proofs.Checked.{Passed, passing}
@@ -38,7 +38,7 @@ module _ {percent : ℕ} {before after : Lent} {b : ℕ} {r : Answer} (e : BackE
     own-reroute-left n = n (return-own e a)
 
     -- One that keeps a short branch's record: what stands there after the call is true of the changed book.
-    pub short-kept : (k : ℕ) → k < C .branches → verdictIn (recordAt (before .table) k) ≡ 2
+    pub short-kept : (k : ℕ) → k < C .branches → SaysShort (recordAt (before .table) k)
         → TrueRecord (back C b) (on (after .flow)) k (recordAt (after .table) k)
     short-kept k l v = back-done e a .brought .renewed .rewritten k l (not-carrying (λ q. omega arith))
 

@@ -8,6 +8,7 @@ pub mod Calls
 pub mod Demand3
 pub mod Returns
 pub mod OutAndBack
+pub mod Islands
 pub mod AsShown
 pub mod UniqueCalls
 pub mod UniqueReturns

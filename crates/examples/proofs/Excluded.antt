@@ -33,8 +33,8 @@ use Rattle.state.proofs.Status.{branches-of}
 use Rattle.demands.proofs.Excluded.{eleven-first}
 use Rattle.verdict.proofs.Shown.{out-exactly}
 use Rattle.demands.proofs.Demand3.{run-true, run-posed}
-use Rattle.examples.specs.Row.{out, carries, short, sightBytes, Shows, Refuses, Takes}
-use Rattle.examples.specs.Table.{minus, joins, triangle, second, pair, feeder, way, markedRows}
+use Rattle.examples.specs.Row.{out, carries, short, islands, sightBytes, Shows, Refuses, Takes}
+use Rattle.examples.specs.Table.{minus, joins, triangle, second, spur, pair, feeder, way, markedRows}
 use Rattle.examples.proofs.Tests.{wellTest, well-sound, fitsTest, fits-sound}
 use Rattle.examples.proofs.OnBook.{of-book, takes-checked}
 use Rattle.examples.proofs.Marked.{row-in, marked-examples}
@@ -60,10 +60,39 @@ module _ {flow : List ℤ} {table : List ℕ} {after : Lent} {r : Answer} where
       → verdictIn (recordAt (after .table) 0) ≡ 1 → ⊥
   unfolding sightBytes recordBytes
   all-carrying l m e v =
-      let s : Shows 100 (second Old 25) (short 20 (0 ∷ []) ∷ short 35 (0 ∷ 1 ∷ []) ∷ short 20 (0 ∷ 1 ∷ []) ∷ short 20 (0 ∷ 1 ∷ 2 ∷ []) ∷ [])
+      let s : Shows 100 (second Old 25) (short 20 (0 ∷ []) ∷ short 35 (0 ∷ 1 ∷ []) ∷ short 20 (0 ∷ 1 ∷ []) ∷ islands 20 (0 ∷ 1 ∷ 2 ∷ []) ∷ [])
       (lent (encode (second Old 25)) flow table) after r =
       marked-examples Old _ (row-in (markedRows Old) 7 (omega arith)) flow table after r l m e in
       omega (arith, first-byte (recordAt (after .table) 0) _ (s .records 0 (omega arith)))
+
+-- ---- Islands.
+module _ {flow : List ℤ} {table : List ℕ} {after : Lent} {r : Answer} where
+  -- A screen that leaves branches of limit 0 out of the path, or calls every branch that is short by its whole flow islanding.
+  pub zero-left-out : 3 ≤ length flow → 156 ≤ length table → ScreenEnds 100 (lent (encode (spur Old 1)) flow table) after r
+      → verdictIn (recordAt (after .table) 0) ≡ 3 → ⊥
+  unfolding sightBytes recordBytes
+  zero-left-out l m e v =
+      let s : Shows 100 (spur Old 1) (short 20 (0 ∷ []) ∷ carries ∷ carries ∷ []) (lent (encode (spur Old 1)) flow table) after r =
+      marked-examples Old _ (row-in (markedRows Old) 19 (omega arith)) flow table after r l m e in
+      omega (arith, first-byte (recordAt (after .table) 0) _ (s .records 0 (omega arith)))
+
+  -- One that finds the path over the lost branch itself, or over one out of service.
+  pub over-itself : 3 ≤ length flow → 156 ≤ length table → ScreenEnds 100 (lent (encode (spur Old 0)) flow table) after r
+      → verdictIn (recordAt (after .table) 0) ≡ 2 → ⊥
+  unfolding sightBytes recordBytes
+  over-itself l m e v =
+      let s : Shows 100 (spur Old 0) (islands 20 (0 ∷ []) ∷ out ∷ carries ∷ []) (lent (encode (spur Old 0)) flow table) after r =
+      marked-examples Old _ (row-in (markedRows Old) 20 (omega arith)) flow table after r l m e in
+      omega (arith, first-byte (recordAt (after .table) 0) _ (s .records 0 (omega arith)))
+
+  -- One that calls a spur without flow islanding.
+  pub idle-spur : 3 ≤ length flow → 156 ≤ length table → ScreenEnds 100 (lent (encode (spur Old 0)) flow table) after r
+      → verdictIn (recordAt (after .table) 2) ≡ 3 → ⊥
+  unfolding sightBytes recordBytes
+  idle-spur l m e v =
+      let s : Shows 100 (spur Old 0) (islands 20 (0 ∷ []) ∷ out ∷ carries ∷ []) (lent (encode (spur Old 0)) flow table) after r =
+      marked-examples Old _ (row-in (markedRows Old) 20 (omega arith)) flow table after r l m e in
+      omega (arith, first-byte (recordAt (after .table) 2) _ (s .records 2 (omega arith)))
 
 -- ---- Limits taken for one another.
 module _ {flow : List ℤ} {table : List ℕ} {after : Lent} {r : Answer} where
@@ -115,7 +144,7 @@ module _ {flow : List ℤ} {table : List ℕ} {after : Lent} {r : Answer} where
   unfolding sightBytes recordBytes
   table-left run e same =
       let w = well-sound T well-T in
-      let t : Takes T (triangle Old 1000 30 0 1) (out ∷ short 30 (0 ∷ []) ∷ short 10 (0 ∷ 2 ∷ []) ∷ []) (lent (encode T) flow table) after r =
+      let t : Takes T (triangle Old 1000 30 0 1) (out ∷ islands 30 (0 ∷ []) ∷ islands 10 (0 ∷ 2 ∷ []) ∷ []) (lent (encode T) flow table) after r =
       marked-examples Old _ (row-in (markedRows Old) 2 (omega arith)) flow table after r run e in
       let anew : verdictIn (recordAt (after .table) 0) ≡ 0 = first-byte (recordAt (after .table) 0) _ (t .records 0 (omega arith)) in
       let zero-byte : verdictIn (recordAt table 0) ≡ 0 = ap (λ (x : List ℕ). verdictIn (recordAt x 0)) (sym same) ∙ anew in

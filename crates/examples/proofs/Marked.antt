@@ -22,6 +22,7 @@ use Rattle.quantity.specs.Rating.{percentOut}
 use Rattle.quantity.proofs.Limits.{full-at-most, full-in-range}
 use Rattle.bits.specs.Field.{withBit, setBit}
 use Rattle.grid.proofs.Tests.{_&_, _⇒_, and-left, and-right, everyGroup}
+use Rattle.grid.proofs.Islands.{together}
 use Rattle.grid.proofs.Trial.{mostTest, smallestTest}
 use Rattle.layout.specs.declared.Form.{Form}
 use Rattle.layout.specs.declared.Form.the-variants.{Old}
@@ -53,7 +54,8 @@ use Rattle.demands.proofs.Demand3.{run-true, run-posed, run-fits, call-checked}
 use Rattle.examples.specs.Row as row
 use Rattle.examples.specs.Row.{Sight, groupBytes, sightBytes, Row, shows, takes, keeps, meters, Shows, Refuses, Takes, Holds}
 use Rattle.examples.specs.Table.{triangle, markedRows, summerRows}
-use Rattle.examples.proofs.Tests.{wellTest, well-sound, sameRows, sameNumbers, same-sound, sameBooks, books-sound, long-group, bytes-group, insideTest, overloadTest, overload-sound, noExcessTest, no-excess-sound, sightTest, sight-sound}
+use Rattle.examples.proofs.Tests.{wellTest, well-sound, sameRows, sameNumbers, same-sound, sameBooks, books-sound, long-group, bytes-group}
+use Rattle.examples.proofs.Tests.{insideTest, overloadTest, overload-sound, noExcessTest, no-excess-sound, missingTest, sightTest, sight-sound}
 
 unfoldable pub rowTest : ℕ → Row → Bool
 rowTest percent (shows b sights) =
@@ -244,13 +246,13 @@ row-in (x ∷ xs) (suc k) u = List·Memᴰ·tail (row-in xs k (omega arith))
 
 -- Every row of the table holds at 100, which is document 01's limit, and in either form: no test looks at it.
 pub marked-examples : (f : Form) (x : Row) → List·Memᴰ x (markedRows f) → Holds 100 x
-unfolding rowsTest rowTest _&_ _⇒_ every some upTo over sum bitAt withBit setBit everyGroup mostTest smallestTest branchFault caseOf tooFar answerTo groupBytes
+unfolding rowsTest rowTest _&_ _⇒_ every some upTo over sum bitAt withBit setBit everyGroup mostTest smallestTest branchFault caseOf tooFar answerTo groupBytes missingTest together
     wellTest sameRows sameBooks insideTest overloadTest noExcessTest sightTest
 marked-examples f = rows-sound 100 full-in-range (markedRows f) refl
 
 -- The books in summer hold at 80.
 pub summer-examples : (x : Row) → List·Memᴰ x summerRows → Holds 80 x
-unfolding percentOut rowsTest rowTest _&_ _⇒_ every some over sum bitAt withBit setBit everyGroup mostTest smallestTest branchFault caseOf groupBytes
+unfolding percentOut rowsTest rowTest _&_ _⇒_ every some over sum bitAt withBit setBit everyGroup mostTest smallestTest branchFault caseOf groupBytes missingTest together
     wellTest insideTest overloadTest noExcessTest sightTest
 summer-examples = rows-sound 80 refl summerRows refl
 

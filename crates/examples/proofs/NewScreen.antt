@@ -18,6 +18,7 @@ use Rattle.quantity.specs.Rating.{percentOut}
 use Rattle.bits.specs.Field.{Bytes, withBit, setBit}
 use Rattle.bits.proofs.ReadAsPut.{length-setBit, bytes-setBit, bytes-zeros, bit-other}
 use Rattle.grid.proofs.Tests.{_&_, _⇒_, everyGroup}
+use Rattle.grid.proofs.Islands.{together}
 use Rattle.grid.proofs.Trial.{mostTest, smallestTest}
 use Rattle.layout.specs.declared.Form.the-variants.{Old}
 use Rattle.layout.specs.Book.{Book, WellFormed}
@@ -35,7 +36,7 @@ use Rattle.state.proofs.TrueRecords.{none, none-has, carrying-record}
 use Rattle.outage.specs.Promise.{Touched, itself, changed, TakenOut, TakeEnds}
 use Rattle.examples.specs.Row.{short, groupBytes, sightBytes}
 use Rattle.examples.specs.Table.{minus, joins}
-use Rattle.examples.proofs.Tests.{wellTest, well-sound, noExcessTest, insideTest, sightTest, sight-sound}
+use Rattle.examples.proofs.Tests.{missingTest, wellTest, well-sound, noExcessTest, insideTest, sightTest, sight-sound}
 use Rattle.examples.proofs.Tests.{fitsTest, fits-sound}
 use Rattle.examples.proofs.OnBook.{of-book, takes-accepted}
 use Rattle.examples.proofs.Excluded.{first-byte}
@@ -161,7 +162,7 @@ not-shown C f rec v group p u t e r =
     omega (arith, first-byte rec _ (sight-sound C f 0 rec p u r (short v group) t), short-shows v group)
 
 short-at-50 : sightTest (caseOf 50 B) 0 (short 5 (0 ∷ 2 ∷ [])) ≡ true
-unfolding sightTest insideTest smallestTest mostTest everyGroup every some over _&_ _⇒_ caseOf bitAt withBit setBit groupBytes
+unfolding sightTest insideTest smallestTest mostTest everyGroup every some over _&_ _⇒_ caseOf bitAt withBit setBit groupBytes missingTest together
 short-at-50 = refl
 
 there : (j : ℕ) → j < 3 → j < caseOf 50 B .branches
@@ -202,7 +203,7 @@ unlisted g same (names-touched (suc (suc zero)) l n t) = false≢true n
 unlisted g same (names-touched (suc (suc (suc j))) l n t) = omega arith
 
 short-after : sightTest (out (caseOf 50 B) 2) 0 (short 5 (0 ∷ [])) ≡ true
-unfolding sightTest insideTest smallestTest mostTest everyGroup every some over _&_ _⇒_ caseOf bitAt withBit setBit groupBytes
+unfolding sightTest insideTest smallestTest mostTest everyGroup every some over _&_ _⇒_ caseOf bitAt withBit setBit groupBytes missingTest together
 short-after = refl
 
 -- So any result is accepted, and its table isn't true at 50.

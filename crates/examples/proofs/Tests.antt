@@ -1,5 +1,5 @@
 -- Computed tests of a row, and what each gives.
-use mathlib.Core.Path.{_≡_, refl, sym, ap, ap₂, _∙_, fun-ext}
+use mathlib.Core.Path.{_≡_, refl, sym, ap, ap₂, _∙_}
 use mathlib.Core.Bool.{Bool, true, false, not, _||_, true≢false}
 use mathlib.Core.List.{List, [], _∷_, append-nil}
 use Prim.Native.Nat.{ℕ, zero, suc, _+_, _-_, _≤_, _<_}
@@ -18,6 +18,7 @@ use Rattle.quantity.specs.Signed.{posPart, negPart}
 use Rattle.quantity.proofs.Parts.{by-parts, size-parts}
 use Rattle.bits.specs.Field.{Bytes}
 use Rattle.bits.proofs.ReadAsPut.{length-setBit, bytes-setBit, bytes-zeros}
+use Rattle.grid.proofs.Islands.{together, together-sound, together-complete}
 use Rattle.grid.proofs.Without.{ends-without}
 use Rattle.grid.proofs.Tests.{_&_, _⇒_, and-left, and-right, imply}
 use Rattle.grid.proofs.Trial.{any-decided, crosses-decided, mostTest, most-sound, smallestTest, smallest-sound}
@@ -31,17 +32,18 @@ use Rattle.layout.specs.Check.{outside, balances}
 use Rattle.layout.proofs.Faults.{sound-branch}
 use Rattle.layout.proofs.AcceptedWhere.{in-range}
 use Rattle.layout.proofs.WellFormed.{balance-sum}
-use Rattle.verdict.specs.Case.{Case, Posed, leaving, arriving, Fits}
+use Rattle.verdict.specs.Case.{Case, Posed, out as without, leaving, arriving, Fits}
 use Rattle.verdict.specs.Excess.{oneEnd, NoExcess, Overload, Short, Carries}
 use Rattle.verdict.proofs.Plain.{base, lossNet, overload-plain, no-excess-plain, short-plain, carries-plain}
 use Rattle.verdict.specs.Record.{verdictIn, shortageIn, groupIn, Zero, Told, is-out, carries, short, TrueRecord}
+use Rattle.verdict.specs.Island.{ShortNumber, joined, islands as alone}
 use Rattle.verdict.proofs.Fitting.{ends}
 use Rattle.verdict.proofs.Loss.{never-both}
 use Rattle.verdict.proofs.VerdictByCase.{first-twenty}
 use Rattle.record.specs.Inside.{recordBytes}
-use Rattle.record.proofs.Made.{record-long, record-verdict, record-shortage, record-group, record-bytes, record-plain, record-tail}
-use Rattle.state.proofs.TrueRecords.{none, none-at, clipped}
-use Rattle.examples.specs.Row.{Sight, out, carries, short, groupBytes, sightBytes}
+use Rattle.record.proofs.Made.{record-verdict, record-plain}
+use Rattle.state.proofs.TrueRecords.{none, none-at, clipped, short-record}
+use Rattle.examples.specs.Row.{Sight, out, carries, short, islands, groupBytes, sightBytes}
 
 -- ---- A well-formed book.
 abbrev isNew : Form → Bool
@@ -161,15 +163,23 @@ overloadTest C v g = ltb 0 v & (smallestTest (base C) any (has (groupBytes g)) v
 unfoldable pub noExcessTest : Case → Bool
 noExcessTest C = mostTest (base C) any 0
 
-unfoldable pub sightTest : Case → ℕ → Sight → Bool
-sightTest C k out = not (C .served k)
-sightTest C k carries = C .served k & mostTest (lossNet C k) (oneEnd C k) 0
-sightTest C k (short v g) =
+-- It is short by v with the group g.
+unfoldable pub missingTest : Case → ℕ → ℕ → List ℕ → Bool
+missingTest C k v g =
     C .served k
     & (ltb 0 v
     & (ltb v 16777216
     & (smallestTest (lossNet C k) (oneEnd C k) (has (groupBytes g)) v
     & insideTest (C .buses) g)))
+
+abbrev joinedTest : Case → ℕ → Bool
+joinedTest C k = together (C .first) (C .second) (without C k .served) (C .branches) (C .first k) (C .second k)
+
+unfoldable pub sightTest : Case → ℕ → Sight → Bool
+sightTest C k out = not (C .served k)
+sightTest C k carries = C .served k & mostTest (lossNet C k) (oneEnd C k) 0
+sightTest C k (short v g) = missingTest C k v g & joinedTest C k
+sightTest C k (islands v g) = missingTest C k v g & not (joinedTest C k)
 
 module _ (C : Case) (p : Posed C) where
   pub overload-sound : (v : ℕ) (g : List ℕ) → overloadTest C v g ≡ true → Overload C v (has (groupBytes g))
@@ -243,17 +253,17 @@ plain-front : (rec : List ℕ) (v : ℕ) → verdictIn rec ≡ v → Zero rec 1 
 plain-front rec v e z zero u = e ∙ sym (record-verdict v 0 noGroup (none 32) refl refl)
 plain-front rec v e z (suc j) u = z (suc j) (omega arith) u ∙ sym (record-plain v 0 noGroup (none 32) refl refl refl (none-at 16) (suc j) (omega arith) u)
 
--- A short branch's record, its reroute zero, is true.
-short-true : (C : Case) (f : ℕ → ℤ) (k v : ℕ) (g : List ℕ) → length g ≡ 16 → Bytes g → C .served k ≡ true → v < 16777216 → Short C k v (has g)
-    → TrueRecord C f k (recordBytes 2 v g (none 32))
-short-true C f k v g lg bg i lv s = record {
-  long = record-long 2 v g (none 32) lg refl;
-  bytes = record-bytes 2 v g (none 32) lg refl (omega arith) lv bg (bytes-zeros 32);
-  told = short i
-      (rw (record-shortage 2 v g (none 32) lg refl lv, fun-ext (record-group 2 v g (none 32) lg refl)) s)
-      (record-verdict 2 v g (none 32) lg refl)
-      (λ j l u. record-tail 2 v g (none 32) lg refl j l ∙ none-at 32 (j - 20));
-}
+-- A short branch's record, with its number, is the one that is true.
+missing-front : (C : Case) (f : ℕ → ℤ) (k : ℕ) (rec : List ℕ) → Posed C → k < C .branches → TrueRecord C f k rec → (v n : ℕ) (g : List ℕ)
+    → missingTest C k v g ≡ true → ShortNumber C k n → take 20 rec ≡ recordBytes n v (groupBytes g) []
+unfolding missingTest
+missing-front C f k rec p u t v n g w number =
+    let w₁ = and-right _ _ w in
+    let w₂ = and-right _ _ w₁ in
+    let w₃ = and-right _ _ w₂ in
+    let s = short-sound C p k u v g (and-left _ _ w₁) (and-left _ _ w₃) (and-right _ _ w₃) in
+    let canon = short-record C f k v n (groupBytes g) (long-group g) (bytes-group g) (and-left _ _ w) (ltb-true _ _ (and-left _ _ w₂)) s number in
+    front-is rec n v (groupBytes g) (none 32) (t .long) (long-group g) (first-twenty C f f k rec (recordBytes n v (groupBytes g) (none 32)) t canon)
 
 pub sight-sound : (C : Case) (f : ℕ → ℤ) (k : ℕ) (rec : List ℕ) → Posed C → k < C .branches → TrueRecord C f k rec → (s : Sight) → sightTest C k s ≡ true → take 20 rec ≡ sightBytes s
 unfolding sightTest sightBytes
@@ -273,9 +283,10 @@ sight-sound C f k rec p u t carries w = front-is rec 1 0 noGroup (none 32) (t .l
     go (carries i c v z m) = plain-front rec 1 v z
     go (short i s v z) = absurd (never-both C k (shortageIn rec) (groupIn rec) (carries-sound C p k u (and-right _ _ w)) s)
 sight-sound C f k rec p u t (short v g) w =
-    let w₁ = and-right _ _ w in
-    let w₂ = and-right _ _ w₁ in
-    let w₃ = and-right _ _ w₂ in
-    let s = short-sound C p k u v g (and-left _ _ w₁) (and-left _ _ w₃) (and-right _ _ w₃) in
-    let canon = short-true C f k v (groupBytes g) (long-group g) (bytes-group g) (and-left _ _ w) (ltb-true _ _ (and-left _ _ w₂)) s in
-    front-is rec 2 v (groupBytes g) (none 32) (t .long) (long-group g) (first-twenty C f f k rec (recordBytes 2 v (groupBytes g) (none 32)) t canon)
+    missing-front C f k rec p u t v 2 g (and-left _ _ w)
+    (joined (together-sound (C .first) (C .second) (without C k .served) (C .branches) (C .first k) (C .second k) (and-right _ _ w)) refl)
+sight-sound C f k rec p u t (islands v g) w =
+    missing-front C f k rec p u t v 3 g (and-left _ _ w)
+    (alone (λ j.
+    true≢false (sym (together-complete (C .first) (C .second) (without C k .served) (C .branches) (C .first k) (C .second k) j)
+    ∙ not-true _ (and-right _ _ w))) refl)

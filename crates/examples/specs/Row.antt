@@ -22,11 +22,12 @@ use Rattle.demands.specs.Run.{Run}
 use Rattle.meters.specs.Registers.{Registers}
 use Rattle.meters.specs.Promise.{Metered}
 
--- What is shown of one branch: a short one with its shortage and the buses of its group.
+-- What is shown of one branch: a short one, joined or islanding, with its shortage and the buses of its group.
 pub data Sight : Type 0 where
   out : Sight
   carries : Sight
   short : ℕ → List ℕ → Sight
+  islands : ℕ → List ℕ → Sight
 
 -- The 16 bytes of a group of buses.
 unfoldable pub groupBytes : List ℕ → List ℕ
@@ -38,6 +39,7 @@ unfoldable pub sightBytes : Sight → List ℕ
 sightBytes out = recordBytes 0 0 noGroup []
 sightBytes carries = recordBytes 1 0 noGroup []
 sightBytes (short v group) = recordBytes 2 v (groupBytes group) []
+sightBytes (islands v group) = recordBytes 3 v (groupBytes group) []
 
 -- A book and what is shown of its branches in their order; a book that is refused with 12, its shortage and group;
 -- a book, a branch that is taken out, the book that is left and what is then shown, or the shortage and group with which that is refused;

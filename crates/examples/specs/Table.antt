@@ -1,5 +1,5 @@
--- Document 01's marked examples (a) to (l), and two of our own, in either form; books of two figures a branch, which the new form alone holds; and
--- books in summer.
+-- Document 01's marked examples (a) to (l), as document 02 amends (b) and (i), and four of our own, in either form; books of two figures a branch,
+-- which the new form alone holds; and books in summer.
 use mathlib.Core.List.{List, [], _∷_}
 use Prim.Native.Nat.{ℕ}
 use lib.IntN.{ℤ, pos, negℤ}
@@ -9,7 +9,7 @@ use Rattle.layout.specs.declared.Form.the-variants.{Old, New}
 use Rattle.layout.specs.declared.Branch.{Branch}
 use Rattle.layout.specs.Book.{Book}
 use Rattle.meters.specs.Registers.{registers}
-use Rattle.examples.specs.Row.{out, carries, short, Row, shows, refuses, takes, keeps, meters}
+use Rattle.examples.specs.Row.{out, carries, short, islands, Row, shows, refuses, takes, keeps, meters}
 
 abbrev pub minus : ℕ → ℤ
 minus n = negℤ (pos n)
@@ -47,6 +47,15 @@ tie f = record {
   branches = joins 0 2 5 1 ∷ joins 0 1 3 1 ∷ joins 1 2 3 1 ∷ [];
 }
 
+-- A branch that carries all, one of limit 0 beside it with its status, and a spur without flow.
+abbrev pub spur : Form → ℕ → Book
+spur f status = record {
+  form = f;
+  factor = 1000;
+  injections = pos 20 ∷ minus 20 ∷ pos 0 ∷ [];
+  branches = joins 0 1 30 1 ∷ joins 0 1 0 status ∷ joins 1 2 10 1 ∷ [];
+}
+
 -- Two figures a branch.
 abbrev pub rated : ℕ → ℕ → ℕ → ℕ → Branch
 rated first second kva kva2 = record { first = first; second = second; kva = inKva kva; kva2 = inKva kva2; status = 1 }
@@ -73,8 +82,8 @@ markedRows f =
     -- (a) all carry
     shows (triangle f 1000 30 1 1) (carries ∷ carries ∷ carries ∷ [])
     -- (b) branch 0 out, screened and through the call, which leaves the book that (c) starts from
-    ∷ shows (triangle f 1000 30 0 1) (out ∷ short 30 (0 ∷ []) ∷ short 10 (0 ∷ 2 ∷ []) ∷ [])
-    ∷ takes (triangle f 1000 30 1 1) 0 (triangle f 1000 30 0 1) (out ∷ short 30 (0 ∷ []) ∷ short 10 (0 ∷ 2 ∷ []) ∷ [])
+    ∷ shows (triangle f 1000 30 0 1) (out ∷ islands 30 (0 ∷ []) ∷ islands 10 (0 ∷ 2 ∷ []) ∷ [])
+    ∷ takes (triangle f 1000 30 1 1) 0 (triangle f 1000 30 0 1) (out ∷ islands 30 (0 ∷ []) ∷ islands 10 (0 ∷ 2 ∷ []) ∷ [])
     -- (c) then branch 1, likewise
     ∷ refuses (triangle f 1000 30 0 0) 30 (0 ∷ [])
     ∷ keeps (triangle f 1000 30 0 1) 1 30 (0 ∷ [])
@@ -83,7 +92,7 @@ markedRows f =
     -- (e) at 19
     ∷ shows (triangle f 1000 19 1 1) (carries ∷ short 1 (0 ∷ 1 ∷ []) ∷ carries ∷ [])
     -- (f) to (i) the second book's four lines
-    ∷ shows (second f 25) (short 20 (0 ∷ []) ∷ short 35 (0 ∷ 1 ∷ []) ∷ short 20 (0 ∷ 1 ∷ []) ∷ short 20 (0 ∷ 1 ∷ 2 ∷ []) ∷ [])
+    ∷ shows (second f 25) (short 20 (0 ∷ []) ∷ short 35 (0 ∷ 1 ∷ []) ∷ short 20 (0 ∷ 1 ∷ []) ∷ islands 20 (0 ∷ 1 ∷ 2 ∷ []) ∷ [])
     -- (j) with 1-2 at 15
     ∷ refuses (second f 15) 5 (0 ∷ 1 ∷ [])
     -- (k) one bus, no branch: an empty table
@@ -103,6 +112,9 @@ markedRows f =
     ∷ keeps way 0 20 (0 ∷ [])
     -- a book whose load fits by the second figures alone
     ∷ refuses feeder 10 (0 ∷ [])
+    -- short by the whole flow, with a branch of limit 0 that joins the ends, and without it; the spur without flow carries
+    ∷ shows (spur f 1) (short 20 (0 ∷ []) ∷ carries ∷ carries ∷ [])
+    ∷ shows (spur f 0) (islands 20 (0 ∷ []) ∷ out ∷ carries ∷ [])
     ∷ []
 
 -- Two branches side by side of 1,003 kVA at power factor 950: at 80 each may carry 762 kW, and 761 if the kW were rounded down before the percentage.

@@ -7,7 +7,8 @@ use Rattle.rows.specs.Sum.{Group, all, pick, over, differ}
 use Rattle.rows.proofs.Sum.{over-zero, over-add, over-same, over-ends, pick-part, over-all, over-term, over-tight, below, equal, above, side}
 use Rattle.grid.proofs.Net.{Net, EndsThere, crosses, gains, loads}
 use Rattle.grid.proofs.Flow.{Flow, Within, at-end, leaves, arrives, Balanced, Closed}
-use Rattle.grid.proofs.ReachBySteps.{here, onward, Reached, Roomy, along, against, Surplus}
+use Rattle.grid.specs.Reach.{here, onward}
+use Rattle.grid.proofs.ReachBySteps.{Reached, Roomy, along, against, Surplus}
 use Rattle.grid.proofs.Excess.{Exceeds, AtMost, Smallest}
 use Rattle.grid.proofs.ReachWithin.{reach-within}
 

@@ -5,6 +5,7 @@ pub mod Excess
 pub mod ReachWithin
 pub mod Cut
 pub mod OneSmallestGroup
+pub mod Islands
 pub mod Without
 pub mod Tests
 pub mod Trial

@@ -1,14 +1,11 @@
--- Reach over a step from bus to bus; a step over a branch with capacity to spare is one such step.
+-- The buses that are reached over a step, and no others; a step over a branch with capacity to spare is one such step.
 use mathlib.Core.Path.{_≡_}
 use mathlib.Core.Bool.{true}
 use Prim.Native.Nat.{ℕ, _+_, _<_}
 use Rattle.rows.specs.Sum.{Group}
+use Rattle.grid.specs.Reach.{Reach}
 use Rattle.grid.proofs.Net.{Net}
 use Rattle.grid.proofs.Flow.{Flow}
-
-pub data Reach (step : ℕ → ℕ → Type 0) (start : ℕ → Type 0) : ℕ → Type 0 where
-  here : {i : ℕ} → start i → Reach step start i
-  onward : {u v : ℕ} → Reach step start u → step u v → Reach step start v
 
 -- Of the n buses, R has those that are reached and no others.
 pub record Reached (step : ℕ → ℕ → Type 0) (start : ℕ → Type 0) (n : ℕ) (R : Group) : Type 0 where

@@ -3,7 +3,7 @@ use mathlib.Core.Path.{_≡_}
 use mathlib.Core.Bool.{true}
 use Prim.Native.Nat.{ℕ}
 use Rattle.rows.specs.Sum.{Group}
-use Rattle.grid.proofs.ReachBySteps.{Reach, here, onward}
+use Rattle.grid.specs.Reach.{Reach, here, onward}
 
 -- A reached bus is in every group that has the starts and that no step leaves.
 pub reach-within : {step : ℕ → ℕ → Type 0} {start : ℕ → Type 0} (R : Group) → ((i : ℕ) → start i → R i ≡ true) → ((u v : ℕ) → step u v → R u ≡ true → R v ≡ true) → {i : ℕ} → Reach step start i → R i ≡ true

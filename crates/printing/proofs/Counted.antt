@@ -30,7 +30,7 @@ handed p q e h = record { whole = omega (arith, e, added-then p q .ends); few = 
 -- The head line and the first k lines of branches were printed, in so many bytes.
 pub record Printing (bs table : List ℕ) (long k : ℕ) : Type 0 where
   pub upto : k ≤ branchesIn bs
-  pub few : long ≤ 42 + 2757 * k
+  pub few : long ≤ 42 + 2759 * k
   pub so-far : long ≡ length (lineOf (headText bs) ++ joined k (λ j. lineOf (branchText table j)))
 
 module _ (bs table : List ℕ) where
@@ -41,7 +41,7 @@ module _ (bs table : List ℕ) where
     so-far = rw (joined-none (λ j. lineOf (branchText table j)), append-nil (lineOf (headText bs))) (h .whole);
   }
 
-  pub printing-more : {long k r : ℕ} → Printing bs table long k → k < branchesIn bs → Handed (branchText table k) 2757 r
+  pub printing-more : {long k r : ℕ} → Printing bs table long k → k < branchesIn bs → Handed (branchText table k) 2759 r
       → Printing bs table (long + r) (k + 1)
   printing-more {long} {k} {r} p u h =
       let f : (ℕ → List ℕ) = λ j. lineOf (branchText table j) in

@@ -1,5 +1,5 @@
--- Each line of the printed list in document 01's words, over the case of the book: `out`, `carries`, or `short` with the shortage and the group of
--- demand 2, whose members are counted over the book's own buses; and the one line of a refused book.
+-- Each line of the printed list in document 01's words, over the case of the book: `out`, `carries`, or `short` or `islands` with the shortage and
+-- the group of demand 2, whose members are counted over the book's own buses; and the one line of a refused book.
 use mathlib.Core.Path.{_≡_, refl, sym, ap, ap₂, _∙_}
 use mathlib.Core.Bool.{true, false}
 use mathlib.Core.List.{List, [], _++_, append-nil}
@@ -21,6 +21,7 @@ use Rattle.layout.specs.Layout.{busesIn, branchesIn}
 use Rattle.layout.proofs.WellFormed.{buses-of}
 use Rattle.verdict.specs.Case.{Case, on}
 use Rattle.verdict.specs.Excess.{Overload, Short, Carries}
+use Rattle.verdict.specs.Island.{Joined}
 use Rattle.verdict.specs.Record.{recordAt, verdictIn, shortageIn, Told}
 use Rattle.verdict.specs.Update.{Lent}
 use Rattle.state.specs.Case.{caseOf, caseIn}
@@ -31,11 +32,12 @@ use Rattle.screen.specs.Promise.{screenCheck, ScreenEnds, refuses, overloads, a
 use Rattle.line.specs.Text.{decimalOf, nextOf, joined}
 use Rattle.line.specs.AnswerText.{membersText, placeText}
 use Rattle.line.proofs.Plain.{Plain, plain-then, plain-cond, plain-decimal, plain-next, plain-members}
-use Rattle.printing.specs.Lines.{headText, outWord, carriesWord, shortWord, refusedWord, shownText, branchText, refusedText}
+use Rattle.printing.specs.Lines.{headText, outWord, carriesWord, shortWord, islandsWord, refusedWord}
+use Rattle.printing.specs.Lines.{missingWord, shownText, branchText, refusedText}
 use Rattle.printing.specs.List.{lineOf, lineAt, acceptedText, listText}
 use Rattle.printing.proofs.Texts.{reason-other}
 use Rattle.screen.proofs.AcceptedScreen.{never-over, number-zero, accepted-screen}
-use Rattle.printing.proofs.ShownOfCase.{shortOver, short-over, shows-out, shows-carries, shows-short}
+use Rattle.printing.proofs.ShownOfCase.{shortOver, short-over, shows-out, shows-carries, shows-short, shows-islands}
 use Rattle.printing.proofs.LinesApart.{first-line, next-line, line-of-joined}
 
 case-buses : (percent : ℕ) (bs : List ℕ) → caseIn percent bs .buses ≡ busesIn bs
@@ -58,12 +60,17 @@ plain-short : Plain shortWord
 unfolding Plain
 plain-short = (refl, (refl, (refl, (refl, (refl, (refl, tt))))))
 
+plain-islands : Plain islandsWord
+unfolding Plain
+plain-islands = (refl, (refl, (refl, (refl, (refl, (refl, (refl, (refl, tt))))))))
+
 plain-branch : (table : List ℕ) (k : ℕ) → Plain (branchText table k)
 plain-branch table k =
     plain-then (decimalOf k) _ (plain-decimal k)
     (plain-cond (eqb (verdictIn rec) 0) _ _ plain-out
     (plain-cond (eqb (verdictIn rec) 1) _ _ plain-carries
-    (plain-then shortWord _ plain-short (plain-then (nextOf (shortageIn rec)) _ (plain-next _) (plain-members 128 _)))))
+    (plain-then (missingWord (verdictIn rec)) _ (plain-cond (eqb (verdictIn rec) 2) _ _ plain-short plain-islands)
+    (plain-then (nextOf (shortageIn rec)) _ (plain-next _) (plain-members 128 _)))))
   where
     rec : List ℕ
     rec = recordAt table k
@@ -104,12 +111,19 @@ module _ {percent : ℕ} {bs : List ℕ} {flow : List ℤ} {table : List ℕ} {a
         → lineAt (suc k) (listText bs r (after .table)) ≡ decimalOf k ++ carriesWord
     carries-line h c = shown carriesWord (shows-carries (caseIn percent bs) (few ok) k _ _ (told ok k l) h c)
 
-    -- One that is short, by any v and S that the case has: v, how many of the book's buses are in S, and these in rising order.
-    pub short-line : caseIn percent bs .served k ≡ true → (v : ℕ) (S : Group) → Short (caseIn percent bs) k v S
+    -- One that is short and joined, by any v and S that the case has: v, how many of the book's buses are in S, and these in rising order.
+    pub short-line : caseIn percent bs .served k ≡ true → (v : ℕ) (S : Group) → Short (caseIn percent bs) k v S → Joined (caseIn percent bs) k
         → lineAt (suc k) (listText bs r (after .table)) ≡ decimalOf k ++ (shortWord ++ (nextOf v ++ membersText (busesIn bs) S))
-    short-line h v S s =
-        shown (shortWord ++ shortOver (caseIn percent bs .buses) v S) (shows-short (caseIn percent bs) (few ok) k _ _ (told ok k l) h v S s)
+    short-line h v S s j =
+        shown (shortWord ++ shortOver (caseIn percent bs .buses) v S) (shows-short (caseIn percent bs) (few ok) k _ _ (told ok k l) h v S s j)
         ∙ ap (λ (n : ℕ). decimalOf k ++ (shortWord ++ shortOver n v S)) (case-buses percent bs)
+
+    -- One whose loss would island, likewise.
+    pub islands-line : caseIn percent bs .served k ≡ true → (v : ℕ) (S : Group) → Short (caseIn percent bs) k v S → (Joined (caseIn percent bs) k → ⊥)
+        → lineAt (suc k) (listText bs r (after .table)) ≡ decimalOf k ++ (islandsWord ++ (nextOf v ++ membersText (busesIn bs) S))
+    islands-line h v S s n =
+        shown (islandsWord ++ shortOver (caseIn percent bs .buses) v S) (shows-islands (caseIn percent bs) (few ok) k _ _ (told ok k l) h v S s n)
+        ∙ ap (λ (m : ℕ). decimalOf k ++ (islandsWord ++ shortOver m v S)) (case-buses percent bs)
 
 -- ---- A refused book.
 said-by-check : (o : Outcome) {r : Answer} → SaidBy o r → (numberOf o ≡ 12 → ⊥)

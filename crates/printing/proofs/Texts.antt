@@ -14,7 +14,7 @@ use Rattle.record.specs.declared.Entry.{Entry}
 use Rattle.record.specs.Inside.{Stretch, Read}
 use Rattle.line.specs.Text.{decimalOf, nextOf}
 use Rattle.line.specs.AnswerText.{placeText}
-use Rattle.printing.specs.Lines.{headText, outWord, carriesWord, shortWord, shortText, shownText, reasonText}
+use Rattle.printing.specs.Lines.{headText, outWord, carriesWord, shortWord, islandsWord, missingWord, shortText, shownText, reasonText}
 
 pub head-shown : {bs : List ℕ} {h : Head} → HeadRead bs h → decimalOf (h .buses) ++ nextOf (h .branches) ≡ headText bs
 head-shown e = rw (e .buses-are, e .branches-are) refl
@@ -23,6 +23,12 @@ head-shown e = rw (e .buses-are, e .branches-are) refl
 pub read-of : {table rec : List ℕ} {k : ℕ} {s : Entry} → Stretch table k rec → Read rec s → Read (recordAt table k) s
 read-of {s = s} c r = subst (λ (x : List ℕ). Read x s) (c .its-bytes) r
 
+pub short-word : {verdict : ℕ} → verdict ≡ 2 → shortWord ≡ missingWord verdict
+short-word {verdict} e = rw (eq-eqb verdict 2 e) refl
+
+pub islands-word : {verdict : ℕ} → verdict ≢ 2 → islandsWord ≡ missingWord verdict
+islands-word {verdict} n = rw (ne-eqb verdict 2 n) refl
+
 module _ {rec : List ℕ} {s : Entry} (r : Read rec s) where
   pub shown-out : s .verdict ≡ 0 → outWord ≡ shownText rec
   shown-out h = rw (eq-eqb (verdictIn rec) 0 (sym (r .verdict-is) ∙ h)) refl
@@ -30,9 +36,10 @@ module _ {rec : List ℕ} {s : Entry} (r : Read rec s) where
   pub shown-carries : s .verdict ≢ 0 → s .verdict ≡ 1 → carriesWord ≡ shownText rec
   shown-carries g h = rw (ne-eqb (verdictIn rec) 0 (λ q. g (r .verdict-is ∙ q)), eq-eqb (verdictIn rec) 1 (sym (r .verdict-is) ∙ h)) refl
 
-  pub shown-short : s .verdict ≢ 0 → s .verdict ≢ 1 → shortWord ++ shortText (s .shortage) (s .group) ≡ shownText rec
+  pub shown-short : s .verdict ≢ 0 → s .verdict ≢ 1 → missingWord (s .verdict) ++ shortText (s .shortage) (s .group) ≡ shownText rec
   shown-short g h =
-      rw (ne-eqb (verdictIn rec) 0 (λ q. g (r .verdict-is ∙ q)), ne-eqb (verdictIn rec) 1 (λ q. h (r .verdict-is ∙ q)), r .shortage-is, r .group-is) refl
+      rw (ne-eqb (verdictIn rec) 0 (λ q. g (r .verdict-is ∙ q)), ne-eqb (verdictIn rec) 1 (λ q. h (r .verdict-is ∙ q)))
+      (rw (r .verdict-is, r .shortage-is, r .group-is) refl)
 
 module _ (r : Answer) where
   pub reason-twelve : {n kw : ℕ} → n ≡ numberOf (r .outcome) → n ≡ 12 → kw ≡ shortageOf (r .outcome) → nextOf n ++ shortText kw (r .group) ≡ reasonText r

@@ -15,7 +15,7 @@ use Rattle.line.specs.AnswerText.{groupText, placeText}
 abbrev pub headText : List ℕ → List ℕ
 headText bs = decimalOf (busesIn bs) ++ nextOf (branchesIn bs)
 
--- The bytes of ` out`, ` carries`, ` short` and `refused`.
+-- The bytes of ` out`, ` carries`, ` short`, ` islands` and `refused`.
 abbrev pub outWord : List ℕ
 outWord = 32 ∷ 111 ∷ 117 ∷ 116 ∷ []
 
@@ -25,6 +25,9 @@ carriesWord = 32 ∷ 99 ∷ 97 ∷ 114 ∷ 114 ∷ 105 ∷ 101 ∷ 115 ∷ []
 abbrev pub shortWord : List ℕ
 shortWord = 32 ∷ 115 ∷ 104 ∷ 111 ∷ 114 ∷ 116 ∷ []
 
+abbrev pub islandsWord : List ℕ
+islandsWord = 32 ∷ 105 ∷ 115 ∷ 108 ∷ 97 ∷ 110 ∷ 100 ∷ 115 ∷ []
+
 abbrev pub refusedWord : List ℕ
 refusedWord = 114 ∷ 101 ∷ 102 ∷ 117 ∷ 115 ∷ 101 ∷ 100 ∷ []
 
@@ -32,12 +35,16 @@ refusedWord = 114 ∷ 101 ∷ 102 ∷ 117 ∷ 115 ∷ 101 ∷ 100 ∷ []
 abbrev pub shortText : ℕ → List ℕ → List ℕ
 shortText shortage group = nextOf shortage ++ groupText group
 
--- What a record shows: verdict 0 is out, 1 carries, any other is short with the shortage and the group of bytes 4 to 19.
+-- The word of a branch that is short: verdict 2 is `short`, any other `islands`.
+abbrev pub missingWord : ℕ → List ℕ
+missingWord verdict = cond (eqb verdict 2) shortWord islandsWord
+
+-- What a record shows: verdict 0 is out, 1 carries, and any other is short or islands, with the shortage and the group of bytes 4 to 19.
 abbrev pub shownText : List ℕ → List ℕ
 shownText rec =
     cond (eqb (verdictIn rec) 0) outWord
     (cond (eqb (verdictIn rec) 1) carriesWord
-    (shortWord ++ shortText (shortageIn rec) (take 16 (drop 4 rec))))
+    (missingWord (verdictIn rec) ++ shortText (shortageIn rec) (take 16 (drop 4 rec))))
 
 -- The branch's number, then what its record in the table shows.
 abbrev pub branchText : List ℕ → ℕ → List ℕ

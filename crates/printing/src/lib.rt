@@ -31,9 +31,9 @@ fn print_head(book: &[u8]) -> usize
 
 fn print_branch(table: &[u8], k: usize) -> usize
     requires { ⌜ 52 * k + 52 ≤ length (now table) ⌝ }
-    ensures { λ r. ⌜ Handed (branchText (now (table .entry)) k) 2757 r ⌝ }
+    ensures { λ r. ⌜ Handed (branchText (now (table .entry)) k) 2759 r ⌝ }
 {
-    let mut out = [0u8; 2757];
+    let mut out = [0u8; 2759];
     let end = put_branch(&mut out, table, k);
     write_line(&mut out, end)
 }

@@ -2,7 +2,7 @@
 ghost use Prim.Native.Nat.{_+_, _*_, _≤_};
 ghost use lib.ListN.{length};
 ghost use Rattle.line.specs.Inside.{Added};
-ghost use Rattle.printing.specs.Lines.{headText, shortText, branchText, refusedText};
+ghost use Rattle.printing.specs.Lines.{headText, shortText, missingWord, branchText, refusedText};
 use answer::Answer;
 use answer::number_of;
 use answer::place_of;
@@ -34,11 +34,23 @@ fn put_short(out: &mut [u8], at: usize, shortage: u32, group: [u8; 16]) -> usize
     put_group(out, after, group)
 }
 
+// The word of a branch that is short.
+fn put_missing(out: &mut [u8], at: usize, verdict: u8) -> usize
+    requires { ⌜ at + 8 ≤ length (now out) ⌝ }
+    ensures { λ r. ⌜ Added (missingWord verdict) (now (out .entry)) at (now (out .exit)) r ⌝ }
+    ensures { λ r. ⌜ r ≤ at + 8 ⌝ }
+{
+    if verdict == 2 {
+        return put(out, at, b" short");
+    }
+    put(out, at, b" islands")
+}
+
 // What the record of branch k shows: its stretch of the table is cut and read here, so that no number of another branch can stand beside it.
 pub fn put_branch(out: &mut [u8], table: &[u8], k: usize) -> usize
-    requires { ⌜ (2756 ≤ length (now out)) × (52 * k + 52 ≤ length (now table)) ⌝ }
+    requires { ⌜ (2758 ≤ length (now out)) × (52 * k + 52 ≤ length (now table)) ⌝ }
     ensures { λ r. ⌜ Added (branchText (now (table .entry)) k) (now (out .entry)) 0 (now (out .exit)) r ⌝ }
-    ensures { λ r. ⌜ r ≤ 2756 ⌝ }
+    ensures { λ r. ⌜ r ≤ 2758 ⌝ }
 {
     let entry = record::read(record::stretch(table, k));
     let verdict = entry.verdict;
@@ -50,7 +62,7 @@ pub fn put_branch(out: &mut [u8], table: &[u8], k: usize) -> usize
     if verdict == 1 {
         return put(out, after_number, b" carries");
     }
-    let after_word = put(out, after_number, b" short");
+    let after_word = put_missing(out, after_number, verdict);
     put_short(out, after_word, entry.shortage, group)
 }
 

@@ -98,7 +98,7 @@ based {W} {limit} {gain} {load} P {m} R {j} J =
     }
 
 -- What is left at the ends of a lost branch: x at one of them, and a lack of x at the other.
-pick-apart : (u v x i : ℕ) → (u ≡ v → ⊥) → min (pick (eqb u i) x) (pick (eqb v i) x) ≡ 0
+pub pick-apart : (u v x i : ℕ) → (u ≡ v → ⊥) → min (pick (eqb u i) x) (pick (eqb v i) x) ≡ 0
 pick-apart u v x i n = go (eqb u i) (eqb v i) (λ p q. n (eqb-true u i p ∙ sym (eqb-true v i q)))
   where
     go : (s t : Bool) → (s ≡ true → t ≡ true → ⊥) → min (pick s x) (pick t x) ≡ 0

@@ -5,7 +5,8 @@ use Prim.Native.Nat.{ℕ, _<_, _≤_}
 use native.Mathlib.Omega.{arith}
 use borrow.Author.Tests.{lt-ltb, ltb-true}
 use Rattle.rows.specs.Row.{nth}
-use Rattle.grid.proofs.ReachBySteps.{Reach, here as begun, onward as led, Reached}
+use Rattle.grid.specs.Reach.{Reach, here as begun, onward as led}
+use Rattle.grid.proofs.ReachBySteps.{Reached}
 use Rattle.search.specs.InsideSearch.{scene, Step, Start, marked}
 use Rattle.search.specs.declared.Wires.{Wires}
 use Rattle.search.specs.declared.Latent.{Latent}

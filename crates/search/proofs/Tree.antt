@@ -9,7 +9,7 @@ use borrow.Author.Count.{below-more}
 use lib.ListN.{length, set, length-set}
 use lib.Seq.{getD-set-same, getD-set-other}
 use Rattle.rows.specs.Row.{nth}
-use Rattle.grid.proofs.ReachBySteps.{Reach, here, onward}
+use Rattle.grid.specs.Reach.{Reach, here, onward}
 use Rattle.search.specs.InsideSearch.{Scene, Arc, Step, Start, Queued}
 use Rattle.search.specs.Inside.{Placed, root, joined, Tree}
 use Rattle.search.proofs.Marking.{zeros-set, either-place}

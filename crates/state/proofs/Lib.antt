@@ -1,4 +1,5 @@
 pub mod TrueRecords
+pub mod ShortNumbers
 pub mod Raising
 pub mod BranchByBranch
 pub mod Rewriting

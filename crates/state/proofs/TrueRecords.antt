@@ -27,10 +27,12 @@ use Rattle.reroute.specs.declared.Verdict.{Verdict}
 use Rattle.reroute.specs.declared.Verdict.the-variants.{Carries, Short}
 use Rattle.verdict.specs.Case.{Case, Posed, out, Fits}
 use Rattle.verdict.specs.Excess.{NoExcess, Short as IsShort}
+use Rattle.verdict.specs.Island.{ShortNumber}
 use Rattle.verdict.specs.Record.{shortageIn, groupIn, is-out, carries, short, TrueRecord}
 use Rattle.verdict.proofs.Plain.{netOf, flowOf, lossNet}
 use Rattle.verdict.proofs.Fitting.{nothing, fits-balanced, fits-none, settled-fits, fits-more, fits-idle}
 use Rattle.verdict.proofs.Loss.{short-is, fits-carries}
+use Rattle.verdict.proofs.Islanding.{number-most}
 use Rattle.verdict.proofs.Alike.{SameFlow, within-alike, balanced-alike, net-out, gains-loads, shortage-limit}
 use Rattle.record.specs.Inside.{recordBytes}
 use Rattle.record.proofs.Made.{record-long, record-verdict, record-shortage, record-group, record-reroute, record-bytes, record-plain, record-tail}
@@ -96,6 +98,21 @@ carrying-record C f p k bits l h e g w exactly beyond idle =
             beyond = λ j u. n j ∙ beyond j u;
             idle = λ z j. n j ∙ idle z j;
           });
+    }
+
+-- ---- A branch that is short, with its number and its group.
+pub short-record : (C : Case) (f : ℕ → ℤ) (k e n : ℕ) (g : List ℕ) → length g ≡ 16 → Bytes g → C .served k ≡ true → e < 16777216
+    → IsShort C k e (has g) → ShortNumber C k n → TrueRecord C f k (recordBytes n e g (none 32))
+short-record C f k e n g lg bg o low s number =
+    let same : groupIn (recordBytes n e g (none 32)) ≡ has g = fun-ext (record-group n e g (none 32) lg refl) in
+    record {
+      long = record-long n e g (none 32) lg refl;
+      bytes = record-bytes n e g (none 32) lg refl (omega (arith, number-most number)) low bg (bytes-zeros 32);
+      told = short o
+          (subst (λ (S : Group). IsShort C k (shortageIn (recordBytes n e g (none 32))) S) (sym same)
+          (subst (λ (x : ℕ). IsShort C k x (has g)) (sym (record-shortage n e g (none 32) lg refl low)) s))
+          (subst (ShortNumber C k) (sym (record-verdict n e g (none 32) lg refl)) number)
+          (λ j w z. record-tail n e g (none 32) lg refl j w ∙ none-at 32 (j - 20));
     }
 
 module _ (C : Case) (f : ℕ → ℤ) (W : Wires) (served : List Bool) (live : List ℕ) (lat : Latent) (s : State C f W served live lat) where
@@ -214,7 +231,7 @@ module _ (C : Case) (f : ℕ → ℤ) (W : Wires) (served : List Bool) (live : L
       unnamed j w false h = h
 
   -- ---- A branch that is short.
-  is-short : (k e : ℕ) (r : Judgement) → Lost W live lat k r → r .verdict ≡ Short e → length (r .group) ≡ 16 → IsShort C k e (has (r .group))
+  pub is-short : (k e : ℕ) (r : Judgement) → Lost W live lat k r → r .verdict ≡ Short e → length (r .group) ≡ 16 → IsShort C k e (has (r .group))
   is-short k e r l v lg =
       let c : Shortage (lossNet C k) (has (r .group)) e =
       subst (λ (w : Verdict). Says (lossNet C k) (carried (lossNet C k .limit) (r .latent .ahead)) (has (r .group)) w) v (says k r l) in
@@ -228,18 +245,8 @@ module _ (C : Case) (f : ℕ → ℤ) (W : Wires) (served : List Bool) (live : L
   short-low k e r u l v lg =
       omega (arith, shortage-limit C k e (has (r .group)) (s .held .posed) fitting u (is-short k e r l v lg), s .held .posed .rated k u)
 
-  pub judge-short : (k e : ℕ) (r : Judgement) → k < C .branches → C .served k ≡ true → Lost W live lat k r → r .verdict ≡ Short e → length (r .group) ≡ 16
-      → TrueRecord C f k (recordBytes 2 e (r .group) (none 32))
-  judge-short k e r u o l v lg =
-      let low = short-low k e r u l v lg in
-      let g = r .group in
-      let same : groupIn (recordBytes 2 e g (none 32)) ≡ has g = fun-ext (record-group 2 e g (none 32) lg refl) in
-      record {
-        long = record-long 2 e g (none 32) lg refl;
-        bytes = record-bytes 2 e g (none 32) lg refl (omega arith) (omega arith) (group-bytes g lg (l .bytes)) (bytes-zeros 32);
-        told = short o
-            (subst (λ (S : Group). IsShort C k (shortageIn (recordBytes 2 e g (none 32))) S) (sym same)
-            (subst (λ (x : ℕ). IsShort C k x (has g)) (sym (record-shortage 2 e g (none 32) lg refl (omega arith))) (is-short k e r l v lg)))
-            (record-verdict 2 e g (none 32) lg refl)
-            (λ j w z. record-tail 2 e g (none 32) lg refl j w ∙ none-at 32 (j - 20));
-      }
+  pub judge-short : (k e n : ℕ) (r : Judgement) → k < C .branches → C .served k ≡ true → Lost W live lat k r → r .verdict ≡ Short e
+      → length (r .group) ≡ 16 → (IsShort C k e (has (r .group)) → ShortNumber C k n) → TrueRecord C f k (recordBytes n e (r .group) (none 32))
+  judge-short k e n r u o l v lg number =
+      short-record C f k e n (r .group) lg (group-bytes (r .group) lg (l .bytes)) o (omega (arith, short-low k e r u l v lg)) (is-short k e r l v lg)
+      (number (is-short k e r l v lg))

@@ -121,6 +121,13 @@ pub record Changed (n : ℕ) (a b : List ℕ) (k : ℕ) (bits : List ℕ) : Type
   pub named : (j : ℕ) → has bits j ≡ true → Differs n a b k j
   pub names : (j : ℕ) → j < n → (j ≡ k → ⊥) → (nth a j ≡ nth b j → ⊥) → has bits j ≡ true
 
+-- `short_number`: a branch between two different buses, of a linked network with the limits of a case.
+pub record Severable (W : Wires) (live : List ℕ) (k : ℕ) : Type 0 where
+  pub linked : Linked W
+  pub limits : (j : ℕ) → j < W .branches → nth live j ≤ 1000000
+  pub below : k < W .branches
+  pub different : nth (W .first) k ≡ nth (W .second) k → ⊥
+
 -- The bits of those of the first n records that t lists.
 pub record Listing (n : ℕ) (t : ℕ → Bool) (bits : List ℕ) : Type 0 where
   pub bit : (k : ℕ) → k < n → has bits k ≡ t k

@@ -1,16 +1,20 @@
 // What every call on a lent book shares: the checks before it, the rows of its case, and records written from them.
 // What is public here serves the calls alone, which meet what it requires.
 ghost use mathlib.Core.Path.{_≡_};
-ghost use Prim.Native.Nat.{ℕ, _+_, _*_, _<_, _≤_};
+ghost use Prim.Native.Nat.{ℕ, _+_, _-_, _*_, _<_, _≤_};
 ghost use lib.IntN.{ℤ, pos, _-ℤ_};
 ghost use lib.ListN.{length};
 ghost use Rattle.rows.specs.Row.{nth, headed};
+ghost use Rattle.rows.specs.Bit.{has};
 ghost use Rattle.rows.specs.Sum.{pick};
 ghost use Rattle.verdict.specs.Case.{Case};
+ghost use Rattle.verdict.specs.Excess.{Short};
+ghost use Rattle.verdict.specs.Island.{ShortNumber};
 ghost use Rattle.verdict.specs.Record.{TrueRecord};
 ghost use Rattle.state.specs.Call.{lentCheck};
 ghost use Rattle.state.specs.Inside.{State, Poised, Changed, Live, Plannable, Planned, Surveyable, Surveyed, RowRaisable, RowRaised, Raisable, Raised};
-ghost use Rattle.state.specs.Inside.{Fillable, Rewritten};
+ghost use Rattle.search.specs.declared.Latent.{Latent};
+ghost use Rattle.state.specs.Inside.{Fillable, Severable, Rewritten};
 use answer::Outcome;
 use book::CaseRows;
 use quantity::Kw;
@@ -182,6 +186,35 @@ pub fn changed(branches: usize, before: [u32; 256], after: [u32; 256], but: usiz
     row
 }
 
+// How far two numbers are apart.
+fn apart(x: u32, y: u32) -> u32
+    ensures { λ r. ⌜ r ≡ (x - y) + (y - x) ⌝ }
+{
+    if x < y { y - x } else { x - y }
+}
+
+// The verdict of a branch k that is short by its whole flow. If no other branch in service leaves the group, its loss would island; only otherwise a
+// search decides, over branches in service whatever their limits.
+fn short_number(
+    wires: Wires,
+    served: [bool; 256],
+    live: [u32; 256],
+    k: usize,
+    group: [u8; 16],
+) -> u8
+    requires { ⌜ Severable wires live k ⌝ }
+    ensures { λ r. ⌜ ((C : Case) (f : ℕ → ℤ) (l : Latent) (v : ℕ) → State C f wires served live l → Short C k v (has group) → ShortNumber C k r) ⌝ }
+{
+    if !island::leaves(wires, served, k, group) {
+        return 3;
+    }
+    let ways = live_limits(wires.branches, served, [Kw(1); 256]);
+    if island::joined(wires, ways, k) {
+        return 2;
+    }
+    3
+}
+
 // The record of branch k, on its stretch: out of service; without flow, spared as it stands; or judged by its loss.
 pub fn put_verdict(
     rec: &mut [u8],
@@ -213,7 +246,12 @@ pub fn put_verdict(
         return;
     };
     let group = judged.group;
-    record::write(rec, 2, excess, group, [0u8; 32]);
+    // If its loss would island, it is short by its whole flow.
+    let mut number: u8 = 2;
+    if excess == apart(live[k], latent.ahead[k]) {
+        number = short_number(wires, served, live, k, group);
+    }
+    record::write(rec, number, excess, group, [0u8; 32]);
 }
 
 fn counted(judged: usize, more: bool) -> usize

@@ -14,6 +14,7 @@ use Rattle.bits.specs.Field.{Bytes}
 use Rattle.verdict.specs.Case.{Case, Posed, out, back, Fits}
 use Rattle.verdict.specs.Record.{verdictIn, names, Zero, Told, is-out, carries, short, TrueRecord}
 use Rattle.verdict.proofs.Fitting.{served-self, served-other, posed-status}
+use Rattle.verdict.proofs.Islanding.{number-above}
 use Rattle.verdict.proofs.Keep.{Wired, keep-reroute, keep-carries}
 use Rattle.verdict.proofs.Loss.{fits-carries, never-both}
 use Rattle.verdict.proofs.Named.{names-only, zero-names}
@@ -63,7 +64,7 @@ module _ (C : Case) (b : ℕ) (off : C .served b ≡ false) where
 
       go : Told C f k rec → Told (back C b) f k rec
       go (is-out i w z) = absurd (omega arith)
-      go (short i s w z) = absurd (omega arith)
+      go (short i s w z) = absurd (omega (arith, number-above w))
       go (carries i c w z m) =
           let clear : (j : ℕ) → j < C .branches → names rec j ≡ true → (f j ≡ f j) × (C .served j ≡ back C b .served j) =
           λ j l e. (refl, serving j (names-only C f k rec ff (carries i c w z m) j e .in-service)) in

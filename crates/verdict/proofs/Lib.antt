@@ -9,4 +9,5 @@ pub mod Updates
 pub mod Back
 pub mod Alike
 pub mod Rest
+pub mod Islanding
 pub mod Shown

@@ -10,6 +10,7 @@ use Rattle.rows.proofs.Sum.{side, below, equal, above}
 use Rattle.verdict.specs.Case.{Case, Posed, on, Fits}
 use Rattle.verdict.specs.Record.{recordAt, verdictIn, names, Told, is-out, carries, short, TrueRecord, TrueTable}
 use Rattle.verdict.specs.Update.{Shortlisted, not-served, not-carrying, is-touched, names-touched, Lent, Renewed}
+use Rattle.verdict.proofs.Islanding.{number-above}
 use Rattle.verdict.proofs.Keep.{Wired, keep-reroute, keep-carries}
 
 module _ (P : ℕ → Type 0) (p? : (j : ℕ) → Dec (P j)) where
@@ -89,7 +90,7 @@ keep C D T f g t k w p ff fg lk same n r = record { long = r .long; bytes = r .b
 
     go : Told C (on f) k (recordAt t k) → Told D (on g) k (recordAt t k)
     go (is-out i v z) = absurd (n (not-carrying (λ e. omega arith)))
-    go (short i s v z) = absurd (n (not-carrying (λ e. omega arith)))
+    go (short i s v z) = absurd (n (not-carrying (λ e. omega (arith, number-above v))))
     go (carries i c v z m) =
         carries (sym (here .1) ∙ i) (keep-carries C D w (on f) (on g) k (recordAt t k) p ff fg lk (here .0) m clear) v z
         (keep-reroute C D w (on f) (on g) k (recordAt t k) p ff fg lk (here .0) m clear)

@@ -21,6 +21,7 @@ use Rattle.verdict.specs.Case.{Case}
 use Rattle.verdict.specs.Excess.{Largest, Short}
 use Rattle.verdict.specs.Record.{recordAt, verdictIn, shortageIn, groupIn, names, Told, is-out, carries, short, TrueRecord, TrueTable}
 use Rattle.verdict.proofs.Loss.{never-both}
+use Rattle.verdict.proofs.Islanding.{number-same}
 
 pub clash : {X : Type 0} {t : Bool} → t ≡ true → t ≡ false → X
 clash p q = absurd (true≢false (sym p ∙ q))
@@ -133,7 +134,7 @@ module _ (C : Case) (k : ℕ) (r s : List ℕ) (lr : length r ≡ 52) (ls : leng
   first-told f g (carries i c v z m) (short i′ c′ v′ z′) = absurd (never-both C k (shortageIn s) (groupIn s) c c′)
   first-told f g (short i c v z) (is-out i′ v′ z′) = clash i i′
   first-told f g (short i c v z) (carries i′ c′ v′ z′ m′) = absurd (never-both C k (shortageIn r) (groupIn r) c′ c)
-  first-told f g (short i c v z) (short i′ c′ v′ z′) = front r s 20 (v ∙ sym v′) (short-same c c′)
+  first-told f g (short i c v z) (short i′ c′ v′ z′) = front r s 20 (number-same v v′) (short-same c c′)
 
 module _ (C : Case) (f g : ℕ → ℤ) (k : ℕ) (r s : List ℕ) (a : TrueRecord C f k r) (b : TrueRecord C g k s) where
   -- Bytes 0 to 19, whatever the flow.

@@ -1,4 +1,5 @@
 pub mod Case
 pub mod Excess
+pub mod Island
 pub mod Record
 pub mod Update

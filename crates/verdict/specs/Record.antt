@@ -12,6 +12,7 @@ use Rattle.bits.specs.Field.{Bytes}
 use Rattle.rows.specs.Sum.{Group}
 use Rattle.verdict.specs.Case.{Case, out, on, Fits}
 use Rattle.verdict.specs.Excess.{Short, Carries}
+use Rattle.verdict.specs.Island.{ShortNumber}
 
 -- Record k is the part of 52 bytes from 52k.
 abbrev pub recordAt : List ℕ → ℕ → List ℕ
@@ -20,6 +21,10 @@ recordAt table k = take 52 (drop (52 * k) table)
 -- Byte 0; bytes 1 to 3, high byte first; bytes 4 to 19; bytes 20 to 51.
 abbrev pub verdictIn : List ℕ → ℕ
 verdictIn rec = nth rec 0
+
+-- Verdicts 2 and 3 both say that the branch is short.
+abbrev pub SaysShort : List ℕ → Type 0
+SaysShort rec = 2 ≤ verdictIn rec
 
 abbrev pub shortageIn : List ℕ → ℕ
 shortageIn rec = nth rec 1 * 65536 + nth rec 2 * 256 + nth rec 3
@@ -43,18 +48,11 @@ pub record Rerouted (C : Case) (f : ℕ → ℤ) (b : ℕ) (rec : List ℕ) : Ty
   pub beyond : (j : ℕ) → C .branches ≤ j → names rec j ≡ false
   pub idle : f b ≡ pos 0 → (j : ℕ) → names rec j ≡ false
 
--- The number of a verdict is a function of the case and the branch.
-abbrev pub carriesNumber : ℕ
-carriesNumber = 1
-
-abbrev pub shortNumber : Case → ℕ → ℕ
-shortNumber C b = 2
-
--- Verdict 0: all else zero. Verdict 1: shortage and group zero. Verdict 2: reroute zero. Bits beyond the counts are 0.
+-- Verdict 0: all else zero. Verdict 1: shortage and group zero. Verdicts 2 and 3: reroute zero. Bits beyond the counts are 0.
 pub data Told (C : Case) (f : ℕ → ℤ) (k : ℕ) (rec : List ℕ) : Type 0 where
   is-out : C .served k ≡ false → verdictIn rec ≡ 0 → Zero rec 1 52 → Told C f k rec
-  carries : C .served k ≡ true → Carries C k → verdictIn rec ≡ carriesNumber → Zero rec 1 20 → Rerouted C f k rec → Told C f k rec
-  short : C .served k ≡ true → Short C k (shortageIn rec) (groupIn rec) → verdictIn rec ≡ shortNumber C k → Zero rec 20 52 → Told C f k rec
+  carries : C .served k ≡ true → Carries C k → verdictIn rec ≡ 1 → Zero rec 1 20 → Rerouted C f k rec → Told C f k rec
+  short : C .served k ≡ true → Short C k (shortageIn rec) (groupIn rec) → ShortNumber C k (verdictIn rec) → Zero rec 20 52 → Told C f k rec
 
 pub record TrueRecord (C : Case) (f : ℕ → ℤ) (k : ℕ) (rec : List ℕ) : Type 0 where
   pub long : length rec ≡ 52

@@ -1,8 +1,8 @@
 //! The named books and inputs whose lists are stored: document 01's two books in either form, marked examples, books whose
-//! two ratings differ, damaged and too long inputs.
+//! two ratings differ, books with branches that would island, damaged and too long inputs.
 
 use crate::books::plain::{moved_up, plain, struck, with_out, with_seconds};
-use crate::books::{ratings, sources};
+use crate::books::{islands, ratings, sources};
 use crate::definitions::book::{pack, Book};
 use crate::definitions::fields::Field;
 
@@ -61,7 +61,7 @@ pub fn largest_new() -> Book {
 
 /// Names and bytes of every stored input; a request's own come after all that stood there before.
 pub fn inputs() -> Vec<(&'static str, Vec<u8>)> {
-    old_inputs().into_iter().chain(new_inputs()).chain(rated_inputs()).chain(wrong_inputs()).collect()
+    old_inputs().into_iter().chain(new_inputs()).chain(rated_inputs()).chain(wrong_inputs()).chain(island_inputs()).collect()
 }
 
 fn new_inputs() -> Vec<(&'static str, Vec<u8>)> {
@@ -94,6 +94,12 @@ fn wrong_inputs() -> Vec<(&'static str, Vec<u8>)> {
         ),
         ("many-new", struck(&second_two(), &[(1, Field::Kva, 1_000_001), (1, Field::SecondKva, 0), (3, Field::FirstBus, 127)])),
     ]
+}
+
+/// A branch of 0 kVA joins the ends of two short ones; with it out of service they would island. The spur carries.
+fn island_inputs() -> Vec<(&'static str, Vec<u8>)> {
+    let ring = islands::ring_zero();
+    vec![("ring-zero", pack(&ring)), ("ring-zero-out", pack(&with_out(ring, islands::CLOSES)))]
 }
 
 fn old_inputs() -> Vec<(&'static str, Vec<u8>)> {

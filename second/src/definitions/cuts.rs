@@ -9,11 +9,13 @@
 //! ways to part the two ends. `verdict` begins with the flow that the base excess left, which is within the second limits
 //! too, and a largest flow may begin with any: without the branch, what it carried is turned back to the source at one end
 //! and missed by the sink at the other. Where the branch carried nothing towards the outside, the sum of all surplus is
-//! already sent, so that no excess above 0 is left that way.
+//! already sent, so that no excess above 0 is left that way. Whether a short branch islands no cut says, since limits have no
+//! part in it; that is asked of `reach`.
 
 use crate::definitions::limits::Limits;
 use crate::definitions::maxflow::{Graph, PLENTY};
 use crate::definitions::network::{Excess, Group, Line, Network, Verdict};
+use crate::definitions::reach;
 
 /// A network as a graph that many cuts are asked of; every bus is joined to source and sink, at times with no room.
 pub struct Cutter<'a> {
@@ -113,7 +115,7 @@ impl Cutter<'_> {
         assert!(one.amount <= 0 || other.amount <= 0, "the base excess was not 0");
         let larger = if one.amount >= other.amount { one } else { other };
         if larger.amount > 0 {
-            Verdict::Short(larger)
+            reach::short(self.network, branch, larger)
         } else {
             Verdict::Carries
         }
@@ -139,7 +141,8 @@ impl Cutter<'_> {
         if placed == lost {
             return Verdict::Carries;
         }
-        Verdict::Short(Excess { amount: lost - placed, group: self.group() })
+        let excess = Excess { amount: lost - placed, group: self.group() };
+        reach::short(self.network, branch, excess)
     }
 }
 

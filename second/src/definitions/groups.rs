@@ -1,7 +1,7 @@
 //! First method: every group tried in turn, so only for up to 12 buses.
 
 use crate::definitions::limits::Limits;
-use crate::definitions::network::{holds, Excess, Group, Network, Verdict};
+use crate::definitions::network::{holds, Excess, Group, Line, Network, Verdict};
 
 const MOST_BUSES: usize = 12;
 
@@ -45,9 +45,19 @@ pub fn verdict(network: &Network, branch: usize) -> Verdict {
     }
     let parts = |group| holds(group, line.first) != holds(group, line.second);
     let excess = largest(network, Limits::Second, Some(branch), parts);
-    if excess.amount > 0 {
-        Verdict::Short(excess)
-    } else {
+    if excess.amount <= 0 {
         Verdict::Carries
+    } else if (0..1u128 << network.buses()).any(|group| parts(group) && untouched(network, group, branch)) {
+        Verdict::Islands(excess)
+    } else {
+        Verdict::Short(excess)
     }
+}
+
+/// Whether no branch in service but the lost one has exactly one end in a group. Where such a group parts the ends of the lost
+/// one, no path of others leads out of it, from the one to the other; and the buses that paths of others lead to from the one are
+/// such a group, unless the other is among them.
+fn untouched(network: &Network, group: Group, lost: usize) -> bool {
+    let leaves = |line: &Line| line.served && holds(group, line.first) != holds(group, line.second);
+    network.lines.iter().enumerate().all(|(number, line)| number == lost || !leaves(line))
 }

@@ -1,7 +1,8 @@
-//! The list that `outages` prints for a book; of one refused with 4 or 5, the place after the number (document 02, W6).
+//! The list that `outages` prints for a book: a branch that would island by a word of its own (document 02, W7), and of a book
+//! refused with 4 or 5 the place after the number (W6).
 
 use crate::definitions::answer::counted;
-use crate::definitions::network::{Network, Verdict};
+use crate::definitions::network::{Excess, Network, Verdict};
 use crate::definitions::percentage::NAMEPLATE;
 use crate::definitions::place::printed;
 use crate::definitions::screen;
@@ -21,8 +22,14 @@ fn accepted(network: &Network) -> String {
         text += &match verdict {
             Verdict::Out => format!("{number} out\n"),
             Verdict::Carries => format!("{number} carries\n"),
-            Verdict::Short(excess) => format!("{number} short {}{}\n", excess.amount, counted(excess.group)),
+            Verdict::Short(excess) => short(number, "short", excess),
+            Verdict::Islands(excess) => short(number, "islands", excess),
         };
     }
     text
+}
+
+/// The line of a short branch, by the word for it.
+fn short(number: usize, word: &str, excess: Excess) -> String {
+    format!("{number} {word} {}{}\n", excess.amount, counted(excess.group))
 }

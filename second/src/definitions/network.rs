@@ -39,11 +39,23 @@ pub struct Excess {
     pub group: Group,
 }
 
+/// Of a short branch, `Short` says that other branches in service join its ends, and `Islands` that none do.
 #[derive(Clone, Copy, Debug, PartialEq, Eq)]
 pub enum Verdict {
     Out,
     Carries,
     Short(Excess),
+    Islands(Excess),
+}
+
+impl Verdict {
+    /// What a branch is short of, islanding or not; none where it isn't short.
+    pub fn excess(self) -> Option<Excess> {
+        match self {
+            Verdict::Short(excess) | Verdict::Islands(excess) => Some(excess),
+            Verdict::Out | Verdict::Carries => None,
+        }
+    }
 }
 
 pub fn members(group: Group) -> Vec<usize> {

@@ -8,6 +8,7 @@ use crate::definitions::outage;
 use crate::definitions::record::{self, SIZE};
 use crate::definitions::screen;
 use crate::definitions::switching::{Judged, Way};
+use crate::judging::islands;
 use crate::judging::percentages;
 use crate::judging::ratings;
 use crate::judging::run::{self, Run};
@@ -41,6 +42,7 @@ impl Call<'_> {
             return Err("the flow left does not fit".into());
         }
         self.judge_records(network, 0..count)?;
+        islands::written(self.tally, "screen", network, self.left, &vec![true; count], "")?;
         self.tally.accepted("screen", network);
         percentages::shown(self.tally, self.command, self.before, self.left, &vec![true; count]);
         Ok(())
@@ -69,6 +71,9 @@ impl Call<'_> {
         }
         percentages::switched(self.tally, self.run, *way, network, self.before, held);
         percentages::shown(self.tally, self.command, self.before, self.left, &judged.anew);
+        let standing = if held { ", from a true table" } else { ", from an untrue table" };
+        islands::written(self.tally, way.name(), &changed, self.left, &judged.anew, standing)?;
+        islands::turned(self.tally, way.name(), self.before, self.left, count, standing);
         if held {
             // A true table stays true: the records kept are judged as well.
             self.judge_records(&changed, (0..count).filter(|&k| !judged.anew[k]))?;
@@ -96,7 +101,8 @@ impl Call<'_> {
                 (0, _) => "records: out of service",
                 (1, true) => "records: carries",
                 (1, false) => "records: carries, reroute undecided",
-                _ => "records: short",
+                (2, _) => "records: short",
+                _ => "records: islanding",
             });
         }
         Ok(())
@@ -135,7 +141,7 @@ impl Call<'_> {
     fn count_back(&mut self, network: &Network, changed: &Network, branch: usize, judged: &Judged, held: bool) {
         let old = |k: usize| record::stretch(&self.before.table, k);
         let kept: Vec<usize> = (0..network.lines.len()).filter(|&k| !judged.anew[k]).collect();
-        let turned = (0..network.lines.len()).filter(|&k| old(k)[0] == 2 && self.left.table[SIZE * k] == 1).count();
+        let turned = (0..network.lines.len()).filter(|&k| record::is_short(old(k)) && self.left.table[SIZE * k] == 1).count();
         let untrue = !held;
         let percentage = self.before.percentage;
         let kept_out = kept.iter().any(|&k| !network.lines[k].served);

@@ -38,31 +38,35 @@ pub const FAULTS: &[(&str, Plant)] = &[
             }
         })
     }),
-    ("a short branch called carrying", |done| first_record(done, 2, |_, _, _| Some(record::bytes(Verdict::Carries, &[])))),
+    ("a short branch called carrying", |done| first_record(done, SHORT, |_, _, _| Some(record::bytes(Verdict::Carries, &[])))),
     ("a carrying branch called short", |done| {
-        first_record(done, 1, |_, _, _| Some(record::bytes(Verdict::Short(Excess { amount: 1, group: 1 }), &[])))
+        first_record(done, CARRYING, |_, _, _| Some(record::bytes(Verdict::Short(Excess { amount: 1, group: 1 }), &[])))
     }),
-    ("a branch in service called out", |done| first_record(done, 1, |_, _, _| Some([0; SIZE]))),
-    ("a shortage one too large", |done| short_record(done, |_, _, excess| Excess { amount: excess.amount + 1, ..excess })),
+    ("a branch in service called out", |done| first_record(done, CARRYING, |_, _, _| Some([0; SIZE]))),
+    ("a shortage one too large", |done| short_record(done, SHORT, |_, _, excess| Excess { amount: excess.amount + 1, ..excess })),
     ("the group round the deficit end", |done| {
-        short_record(done, |network, _, excess| Excess { group: all_buses(network) & !excess.group, ..excess })
+        short_record(done, SHORT, |network, _, excess| Excess { group: all_buses(network) & !excess.group, ..excess })
     }),
-    ("the largest group", |done| short_record(done, largest_group)),
+    ("the largest group", |done| short_record(done, SHORT, largest_group)),
     ("a group bit beyond the bus count", |done| {
-        short_record(done, |network, _, excess| Excess {
+        short_record(done, SHORT, |network, _, excess| Excess {
             group: excess.group | if network.buses() < 128 { 1 << 127 } else { 0 },
             ..excess
         })
     }),
-    ("a reroute that names the branch itself", |done| first_record(done, 1, |_, branch, bytes| Some(with_bit(bytes, branch)))),
+    ("a reroute that names the branch itself", |done| {
+        first_record(done, CARRYING, |_, branch, bytes| Some(with_bit(bytes, branch)))
+    }),
     ("a reroute bit beyond the branch count", |done| {
-        first_record(done, 1, |network, _, bytes| (network.lines.len() < 256).then(|| with_bit(bytes, 255)))
+        first_record(done, CARRYING, |network, _, bytes| (network.lines.len() < 256).then(|| with_bit(bytes, 255)))
     }),
     ("a reroute bit for a branch out of service", |done| {
-        first_record(done, 1, |network, _, bytes| network.lines.iter().position(|line| !line.served).map(|k| with_bit(bytes, k)))
+        first_record(done, CARRYING, |network, _, bytes| {
+            network.lines.iter().position(|line| !line.served).map(|k| with_bit(bytes, k))
+        })
     }),
     ("a reroute bit for a branch that must keep its flow", |done| {
-        first_record(done, 1, |network, branch, bytes| bridge(network, branch).map(|k| with_bit(bytes, k)))
+        first_record(done, CARRYING, |network, branch, bytes| bridge(network, branch).map(|k| with_bit(bytes, k)))
     }),
     ("an empty reroute though there is a flow", empty_reroute),
     ("a reroute though there is no flow", reroute_without_flow),
@@ -103,7 +107,7 @@ pub const FAULTS: &[(&str, Plant)] = &[
     ("an outage that drops the flow and screens afresh", screened_afresh),
     ("a kept record written anew", kept_record_written),
     ("a shortlisted record kept", |done| shortlisted_kept(done, |_, _, _| true)),
-    ("an old shortage taken over", |done| shortlisted_kept(done, |_, old, _| old[0] == 2)),
+    ("an old shortage taken over", |done| shortlisted_kept(done, |_, old, _| record::is_short(old))),
     ("a record kept since its reroute is untouched, though its own flow changed", |done| shortlisted_kept(done, own_flow_only)),
     ("a refused screen that writes a book byte", |done| refused_leaves(done, "screen", book_byte)),
     ("a refused screen that writes a flow number", |done| refused_leaves(done, "screen", flow_number)),

@@ -4,8 +4,9 @@ use crate::definitions::answer::Answer;
 use crate::definitions::book::{self, Book};
 use crate::definitions::cuts::{self, Cutter};
 use crate::definitions::limits::Limits;
-use crate::definitions::network::{Excess, Network, Verdict};
+use crate::definitions::network::{Excess, Network};
 use crate::definitions::outage;
+use crate::definitions::reach;
 use crate::definitions::record::{self, SIZE};
 use crate::definitions::reroutes;
 use crate::definitions::screen;
@@ -22,10 +23,12 @@ pub const RATING_FAULTS: &[(&str, Plant)] = &[
     ("an outage with verdicts by the normal limits", |done| records_by(done, "out", normal_alone)),
     ("a return with verdicts by the normal limits", |done| records_by(done, "back", normal_alone)),
     ("verdicts by the second kVA without the power factor", |done| records_by_book(done, "screen", without_factor)),
-    ("one branch called short, whose reroute is above a normal limit", |done| record_by_normal(done, 1, |_, excess| excess)),
-    ("a shortage and a group by the normal limits", |done| record_by_normal(done, 2, |_, excess| excess)),
+    ("one branch called short, whose reroute is above a normal limit", |done| {
+        record_by_normal(done, CARRYING, |_, excess| excess)
+    }),
+    ("a shortage and a group by the normal limits", |done| record_by_normal(done, SHORT, |_, excess| excess)),
     ("a group by the normal limits, the shortage right", |done| {
-        record_by_normal(done, 2, |shown, excess| Excess { amount: record::shortage(shown), ..excess })
+        record_by_normal(done, SHORT, |shown, excess| Excess { amount: record::shortage(shown), ..excess })
     }),
     ("a screen accepted by the second limits", |done| {
         refused_by_12(done, "screen", |network, _, done| {
@@ -55,7 +58,8 @@ pub const RATING_FAULTS: &[(&str, Plant)] = &[
         instead(done, falls_back, "12")
     }),
     ("an outage refused since the record shows it as short", |done| {
-        let shown = |done: &Done| lost(done).is_some_and(|lost| record::stretch(&done.before.table, lost.branch)[0] == 2);
+        let shown =
+            |done: &Done| lost(done).is_some_and(|lost| record::is_short(record::stretch(&done.before.table, lost.branch)));
         instead(done, shown, "12")
     }),
     ("an outage that keeps to the recorded reroute above a normal limit", |done| {
@@ -90,17 +94,17 @@ fn without_factor(network: &Network, book: &Book) -> Network {
     network
 }
 
-/// Calls a branch short with an excess made from that of the normal limits: the first judged record with this verdict that
-/// this changes.
-fn record_by_normal(done: &mut Done, verdict: u8, other: impl Fn(&[u8], Excess) -> Excess) -> bool {
+/// Calls a branch short, or islanding where it is, with an excess made from that of the normal limits: the first judged record
+/// with such a byte 0 that this changes.
+fn record_by_normal(done: &mut Done, byte_0: &[u8], other: impl Fn(&[u8], Excess) -> Excess) -> bool {
     accepted(done, |network, done| {
         let tight = normal_alone(network);
         let mut cutter = Cutter::new(&tight);
         let listed = if limits_differ(network) { judged_records(network, done) } else { Vec::new() };
         for k in listed {
             let shown = record::stretch(&done.after.table, k).to_vec();
-            let (true, Verdict::Short(excess)) = (shown[0] == verdict, cutter.verdict(k)) else { continue };
-            let changed = record::bytes(Verdict::Short(other(&shown, excess)), &[]);
+            let (true, Some(excess)) = (byte_0.contains(&shown[0]), cutter.verdict(k).excess()) else { continue };
+            let changed = record::bytes(reach::short(network, k, other(&shown, excess)), &[]);
             if changed[..] != shown {
                 done.after.table[SIZE * k..SIZE * (k + 1)].copy_from_slice(&changed);
                 return true;
@@ -177,7 +181,7 @@ fn refused_as_shown(done: &mut Done, shortage: impl Fn(&[u8]) -> i64) -> bool {
     refused_by_12(done, "out", |_, branch, done| {
         let shown = record::stretch(&done.before.table, branch);
         let excess = Excess { amount: shortage(shown), group: record::group(shown) };
-        shown[0] == 2 && says(done, Answer::overloaded(excess))
+        record::is_short(shown) && says(done, Answer::overloaded(excess))
     })
 }
 

@@ -70,8 +70,8 @@ pub const RETURN_FAULTS: &[(&str, Plant)] = &[
             Some(changed)
         })
     }),
-    ("a return that keeps a short record", |done| old_record(done, |old| old[0] == 2)),
-    ("a return that keeps a record of another byte 0", |done| old_record(done, |old| old[0] > 2)),
+    ("a return that keeps a short record", |done| old_record(done, record::is_short)),
+    ("a return that keeps a record of another byte 0", |done| old_record(done, |old| old[0] > 3)),
     ("a return that keeps a record of byte 0 = 0 in service", |done| old_record(done, |old| old[0] == 0)),
     ("a return that writes a record of byte 0 = 1 out of service", |done| {
         kept_written(done, |network, k, _, _| !network.lines[k].served)
@@ -153,7 +153,7 @@ fn own_record(done: &mut Done, other: impl FnOnce(&Network, usize, &[u8]) -> Opt
 }
 
 /// Gives a record written anew its old bytes back, where these are others.
-fn old_record(done: &mut Done, wanted: impl Fn(&[u8]) -> bool) -> bool {
+pub fn old_record(done: &mut Done, wanted: impl Fn(&[u8]) -> bool) -> bool {
     back(done, |network, branch, done| {
         let changed = |k: &usize| {
             let old = record::stretch(&done.before.table, *k);

@@ -94,12 +94,17 @@ pub fn judged_records(network: &Network, done: &Done) -> Vec<usize> {
     (0..count).filter(|&k| anew[k]).collect()
 }
 
-/// Puts other bytes into the first judged record with this verdict for which there are any.
-pub fn first_record(done: &mut Done, verdict: u8, other: impl Fn(&Network, usize, &[u8]) -> Option<[u8; SIZE]>) -> bool {
+/// What byte 0 of a record says: that the branch carries, that it is short, islanding or not, and that it is islanding.
+pub const CARRYING: &[u8] = &[1];
+pub const SHORT: &[u8] = &[2, 3];
+pub const ISLANDING: &[u8] = &[3];
+
+/// Puts other bytes into the first judged record with such a byte 0 for which there are any.
+pub fn first_record(done: &mut Done, shown: &[u8], other: impl Fn(&Network, usize, &[u8]) -> Option<[u8; SIZE]>) -> bool {
     accepted(done, |network, done| {
         for k in judged_records(network, done) {
             let bytes = record::stretch(&done.after.table, k);
-            if let Some(changed) = (bytes[0] == verdict).then(|| other(network, k, bytes)).flatten() {
+            if let Some(changed) = shown.contains(&bytes[0]).then(|| other(network, k, bytes)).flatten() {
                 let differs = changed != bytes;
                 done.after.table[SIZE * k..SIZE * (k + 1)].copy_from_slice(&changed);
                 return differs;
@@ -109,21 +114,29 @@ pub fn first_record(done: &mut Done, verdict: u8, other: impl Fn(&Network, usize
     })
 }
 
-pub fn short_record(done: &mut Done, other: impl Fn(&Network, usize, Excess) -> Excess) -> bool {
-    first_record(done, 2, |network, k, bytes| {
+/// Another shortage or group in the first such record, its byte 0 as it was.
+pub fn short_record(done: &mut Done, shown: &[u8], other: impl Fn(&Network, usize, Excess) -> Excess) -> bool {
+    first_record(done, shown, |network, k, bytes| {
         let excess = Excess { amount: record::shortage(bytes), group: record::group(bytes) };
         let changed = other(network, k, excess);
-        (changed != excess).then(|| record::bytes(Verdict::Short(changed), &[]))
+        (changed != excess).then(|| with_byte_0(&record::bytes(Verdict::Short(changed), &[]), bytes[0]))
     })
+}
+
+/// The same record with another byte 0.
+pub fn with_byte_0(bytes: &[u8], byte_0: u8) -> [u8; SIZE] {
+    let mut changed: [u8; SIZE] = bytes.try_into().expect("a record");
+    changed[0] = byte_0;
+    changed
 }
 
 /// The largest group that reaches the shortage: what is left when the smallest deficit side is taken away.
 pub fn largest_group(network: &Network, branch: usize, excess: Excess) -> Excess {
     let mut turned = network.clone();
     turned.injections.iter_mut().for_each(|kw| *kw = -*kw);
-    match cuts::verdict(&turned, branch) {
-        Verdict::Short(other) => Excess { amount: excess.amount, group: all_buses(network) & !other.group },
-        _ => excess,
+    match cuts::verdict(&turned, branch).excess() {
+        Some(other) => Excess { amount: excess.amount, group: all_buses(network) & !other.group },
+        None => excess,
     }
 }
 
@@ -144,12 +157,12 @@ pub fn bridge(network: &Network, branch: usize) -> Option<usize> {
 
 pub fn empty_reroute(done: &mut Done) -> bool {
     let flow = done.after.flow.clone();
-    first_record(done, 1, |_, k, _| (flow[k] != 0).then(|| record::bytes(Verdict::Carries, &[])))
+    first_record(done, CARRYING, |_, k, _| (flow[k] != 0).then(|| record::bytes(Verdict::Carries, &[])))
 }
 
 pub fn reroute_without_flow(done: &mut Done) -> bool {
     let flow = done.after.flow.clone();
-    first_record(done, 1, |network, k, bytes| {
+    first_record(done, CARRYING, |network, k, bytes| {
         (flow[k] == 0 && network.lines.len() > 1).then(|| with_bit(bytes, if k == 0 { 1 } else { 0 }))
     })
 }

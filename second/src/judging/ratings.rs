@@ -25,11 +25,13 @@ pub fn second_alone(network: &Network) -> Network {
 }
 
 /// What follows for an outage, accepted or refused with 12, from what a true table showed: it is short of no less than shown,
-/// so that it is accepted only where shown as carrying; and of exactly that, with that group, where no two limits differ.
+/// so that it is accepted only where shown as carrying; of exactly that where it would island, since then it is its whole flow by
+/// either limits; and of exactly that, with that group, where no two limits differ.
 pub fn agrees(network: &Network, shown: &[u8], answer: Answer) -> Result<(), String> {
     let (shortage, group) = (record::shortage(shown), record::group(shown));
     let as_shown = (answer.shortage, answer.group) == (shortage, group);
-    if answer.shortage < shortage || !as_shown && !limits_differ(network) {
+    let more = shown[0] == 3 && answer.shortage > shortage;
+    if answer.shortage < shortage || more || !as_shown && !limits_differ(network) {
         return Err(format!("the answer is {answer}, though a true table showed {shortage} kW short with group {group:b}"));
     }
     Ok(())
@@ -72,7 +74,7 @@ pub fn refused_12(tally: &mut Tally, run: &Run, lent: &Spaces, branch: usize, an
     }
     let shown = record::stretch(&lent.table, branch);
     agrees(&network, shown, answer)?;
-    let short = shown[0] == 2;
+    let short = record::is_short(shown);
     let kinds = [
         ("shown as carrying", !short),
         ("shown as short", short),

@@ -5,7 +5,8 @@ use crate::books::random_ratings;
 use crate::definitions::record;
 use crate::definitions::switching::Way;
 use crate::streams::under_way::Stream;
-use crate::streams::{damage, make_forms, make_percentages, make_places, make_ratings, make_returns, make_tables, make_written};
+use crate::streams::{damage, make_forms, make_islands, make_percentages, make_places};
+use crate::streams::{make_ratings, make_returns, make_tables, make_written};
 use crate::trial::stream::{Command, FLOWS, INJECTIONS, NUMBERS, TABLE};
 
 /// The random stream of a seed.
@@ -30,7 +31,7 @@ pub fn stream(seed: u64) -> Vec<u8> {
 
 /// One episode of any kind.
 fn episode(stream: &mut Stream) {
-    match stream.random.below(41) {
+    match stream.random.below(45) {
         0 => run(stream),
         1 | 2 => run_with_spoilt_table(stream),
         3 | 4 => make_tables::lent_flow(stream),
@@ -53,7 +54,10 @@ fn episode(stream: &mut Stream) {
         32..=34 => make_percentages::changed(stream),
         35 | 36 => make_percentages::lent_and_changed(stream),
         37 | 38 => make_percentages::just_enough(stream),
-        _ => make_percentages::out_of_range(stream),
+        39 | 40 => make_percentages::out_of_range(stream),
+        41 | 42 => make_islands::switched(stream),
+        43 => make_islands::screened(stream),
+        _ => make_islands::mistaken(stream),
     }
 }
 

@@ -36,7 +36,7 @@ impl Wanted {
         let spare = excess.amount == 0 && spaces.flow[branch] != 0;
         match (self, cutter.verdict(branch)) {
             (Wanted::CarriesOnly, Verdict::Carries) => excess.amount > 0,
-            (Wanted::OtherGroup, Verdict::Short(shown)) => excess.group != shown.group,
+            (Wanted::OtherGroup, shown) => shown.excess().is_some_and(|shown| excess.group != shown.group),
             (Wanted::Elsewhere, Verdict::Carries) => spare && !keeps(network, spaces, branch),
             (Wanted::AsRecorded, Verdict::Carries) => spare && keeps(network, spaces, branch),
             _ => false,

@@ -12,7 +12,7 @@ use crate::definitions::network::Verdict;
 use crate::definitions::record;
 use crate::definitions::switching::Way;
 use crate::streams::under_way::Stream;
-use crate::streams::{stored_forms, stored_percentages, stored_places, stored_ratings, stored_returns};
+use crate::streams::{stored_forms, stored_islands, stored_percentages, stored_places, stored_ratings, stored_returns};
 use crate::trial::stream::{Command, BOOK, FLOWS, INJECTIONS, NUMBERS, TABLE};
 
 /// Calls that are lent all the space there is: a screen, a read, an outage, a return.
@@ -52,6 +52,7 @@ pub fn stream() -> Vec<u8> {
     stored_ratings::add(&mut stream);
     stored_places::add(&mut stream);
     stored_percentages::add(&mut stream);
+    stored_islands::add(&mut stream);
     // A bad command stops a stream, so it stays the last.
     stream.bytes.extend(b"F\x01\x00");
     stream.bytes

@@ -1,9 +1,13 @@
 -- The record of one branch: each of its four ways is a true record.
 use borrow.Author.Needs.{needs}
 use native.Mathlib.Omega.{arith}
-use mathlib.Core.Path.{sym, _∙_}
+use mathlib.Core.Path.{_≡_, sym, subst, _∙_}
+use mathlib.Core.Logic.{⊎-elim}
 use borrow.Author.Tests.{not-true, not-false}
+use lib.ListN.{length}
 use Rattle.state.proofs.TrueRecords.{judge-out, judge-still, judge-carries, judge-short, short-low, losable}
+use Rattle.verdict.specs.Island.{ShortNumber}
+use Rattle.state.proofs.ShortNumbers.{number-less}
 use Rattle.state.proofs.put_verdict.Statement.{statement}
 use Rattle.state.proofs.put_verdict.Tie as tie
 
@@ -72,11 +76,38 @@ returns-3 c C f s =
     (judge-carries C f _ _ _ _ s _ _ _ (rw (← s .held .branches-are) (at .before .before .before .before .pre .1)) (sym (s .held .served-is _) ∙ not-false _ (at .before .before .if1 .left))
     (c .before .before .before .before .before .before .before .before .before .before .loss .ensures) (c .before .before .before .before .before .before .before .before .enum-told .given .1) (at .if2 .left) (c .before .before .before .before .changed .ensures))
 
+whole-group : (c : tie.After-loss) → length (c .loss .result .group) ≡ 16
+whole-group c = let whole = c .loss .ok in search needs
+
+mul-apart : tie.Need-mul-apart
+mul-apart c = search needs
+
+array-read-apart : tie.Need-array-read-apart
+array-read-apart c = search needs
+
+mul-apart-2 : tie.Need-mul-apart-2
+mul-apart-2 c = search needs
+
+element-copy-out-apart : tie.Need-element-copy-out-apart
+element-copy-out-apart c = search needs
+
+apart-requires : tie.Need-apart-requires
+apart-requires c κs = search needs
+
+short-number-requires : tie.Need-short-number-requires
+short-number-requires c κs =
+    let a = c .before .before .before .before .before .before .before .before .before .before .before .before .pre in
+    let l = losable (a .0 .case) (a .0 .flow) _ _ _ _ (a .0 .state) _ (a .1) in
+    record { linked = l .linked; limits = l .limits; below = l .below; different = l .different }
+
 write-requires-4 : tie.Need-write-requires-4
 write-requires-4 c κs =
-    let a = c .before .before .before .before .before .before .before .before .before .before .pre in
+    let told = c .before .before .before .before .before .before in
+    let judged = told .before .before in
+    let a = judged .before .before .before .before .before .pre in
     let s = a .0 .state in
-    let low = short-low (a .0 .case) (a .0 .flow) _ _ _ _ s _ _ _ (rw (← s .held .branches-are) (a .1)) (c .before .before .before .before .before .loss .ensures) (c .before .before .before .verdict .given .1) (let whole = c .before .before .before .before .before .loss .ok in search needs) in
+    let low = short-low (a .0 .case) (a .0 .flow) _ _ _ _ s _ _ _ (rw (← s .held .branches-are) (a .1)) (judged .loss .ensures)
+    (told .verdict .given .1) (whole-group judged) in
     (search needs, omega (arith, low))
 
 same-length-4 : tie.Need-same-length-4
@@ -84,10 +115,19 @@ same-length-4 c = search needs
 
 returns-4 : tie.Need-returns-4
 returns-4 c C f s =
-    let at = c .before .before .before .before .before .before .before .before .before in
+    let number = c .before .before .before .before in
+    let size = number .before in
+    let told = size .before .before .before .before in
+    let judged = told .before .before in
+    let at = judged .before in
+    let there = at .before .before .before .before .pre .1 in
     rw (c .before .before .write4 .ensures)
-    (judge-short C f _ _ _ _ s _ _ _ (rw (← s .held .branches-are) (at .before .before .before .before .pre .1)) (sym (s .held .served-is _) ∙ not-false _ (at .before .before .if1 .left))
-    (c .before .before .before .before .before .before .before .before .loss .ensures) (c .before .before .before .before .before .before .verdict .given .1) (let whole = c .before .before .before .before .before .before .before .before .loss .ok in search needs))
+    (judge-short C f _ _ _ _ s _ _ _ _ (rw (← s .held .branches-are) there) (sym (s .held .served-is _) ∙ not-false _ (at .before .before .if1 .left))
+    (judged .loss .ensures) (told .verdict .given .1) (whole-group judged)
+    (λ h. ⊎-elim
+    (λ w. subst (ShortNumber C _) (sym (w .2)) (w .1 .ensures C f _ _ s h))
+    (λ w. subst (ShortNumber C _) (sym (w .1)) (number-less C f _ _ _ _ s _ there _ _ h (λ q. w .0 .left (q ∙ sym (size .apart .ensures)))))
+    (number .if3 .came)))
 
 pub put-verdict-spec : {M : Type 1} → statement M
 put-verdict-spec =
@@ -111,6 +151,12 @@ put-verdict-spec =
     write-requires-3
     same-length-3
     returns-3
+    mul-apart
+    array-read-apart
+    mul-apart-2
+    element-copy-out-apart
+    apart-requires
+    short-number-requires
     write-requires-4
     same-length-4
     returns-4)

@@ -56,11 +56,8 @@ returns-2 c =
       omega (arith, number .put-decimal .ensures .1, word .put2 .ensures .ends),
     )
 
-slice-aggregate-put-3 : tie.Need-slice-aggregate-put-3
-slice-aggregate-put-3 c = search needs
-
-put-requires-3 : tie.Need-put-requires-3
-put-requires-3 c κs = search needs
+put-missing-requires : tie.Need-put-missing-requires
+put-missing-requires c κs = search needs
 
 put-short-requires : tie.Need-put-short-requires
 put-short-requires c κs = search needs
@@ -72,14 +69,14 @@ returns-3 : tie.Need-returns-3
 returns-3 c =
     let short = c .before .before in
     let word = short .before .before .before .before in
-    let test = word .before .before .before in
+    let test = word .before .before in
     let number = test .before .before .before .before in
     let shown = number .before .before .before in
     let is-read = read-of (shown .before .stretch .ensures) (shown .read .ensures) in (
       added-then (number .put-decimal .ensures .0)
           (added-same (shown-short is-read (test .before .if1 .left) (test .if2 .left))
-          (added-then (word .put3 .ensures) (short .put-short .ensures .0))),
-      omega (arith, number .put-decimal .ensures .1, word .put3 .ensures .ends, short .put-short .ensures .1),
+          (added-then (word .put-missing .ensures .0) (short .put-short .ensures .0))),
+      omega (arith, number .put-decimal .ensures .1, word .put-missing .ensures .1, short .put-short .ensures .1),
     )
 
 pub put-branch-spec : {M : Type 1} → statement M
@@ -97,8 +94,7 @@ put-branch-spec =
     put-requires-2
     same-length-2
     returns-2
-    slice-aggregate-put-3
-    put-requires-3
+    put-missing-requires
     put-short-requires
     same-length-3
     returns-3)
