@@ -76,23 +76,19 @@ module _ {flow : List ℤ} {table : List ℕ} {after : Lent} {r : Answer} where
       marked-examples Old _ (row-in (markedRows Old) 19 (omega arith)) flow table after r l m e in
       omega (arith, first-byte (recordAt (after .table) 0) _ (s .records 0 (omega arith)))
 
-  -- One that finds the path over the lost branch itself, or over one out of service.
-  pub over-itself : 3 ≤ length flow → 156 ≤ length table → ScreenEnds 100 (lent (encode (spur Old 0)) flow table) after r
-      → verdictIn (recordAt (after .table) 0) ≡ 2 → ⊥
-  unfolding sightBytes recordBytes
-  over-itself l m e v =
-      let s : Shows 100 (spur Old 0) (islands 20 (0 ∷ []) ∷ out ∷ carries ∷ []) (lent (encode (spur Old 0)) flow table) after r =
-      marked-examples Old _ (row-in (markedRows Old) 20 (omega arith)) flow table after r l m e in
-      omega (arith, first-byte (recordAt (after .table) 0) _ (s .records 0 (omega arith)))
+  module _ (l : 3 ≤ length flow) (m : 156 ≤ length table) (e : ScreenEnds 100 (lent (encode (spur Old 0)) flow table) after r) where
+    cut-off : Shows 100 (spur Old 0) (islands 20 (0 ∷ []) ∷ out ∷ carries ∷ []) (lent (encode (spur Old 0)) flow table) after r
+    cut-off = marked-examples Old _ (row-in (markedRows Old) 20 (omega arith)) flow table after r l m e
 
-  -- One that calls a spur without flow islanding.
-  pub idle-spur : 3 ≤ length flow → 156 ≤ length table → ScreenEnds 100 (lent (encode (spur Old 0)) flow table) after r
-      → verdictIn (recordAt (after .table) 2) ≡ 3 → ⊥
-  unfolding sightBytes recordBytes
-  idle-spur l m e v =
-      let s : Shows 100 (spur Old 0) (islands 20 (0 ∷ []) ∷ out ∷ carries ∷ []) (lent (encode (spur Old 0)) flow table) after r =
-      marked-examples Old _ (row-in (markedRows Old) 20 (omega arith)) flow table after r l m e in
-      omega (arith, first-byte (recordAt (after .table) 2) _ (s .records 2 (omega arith)))
+    -- One that finds the path over the lost branch itself, or over one out of service.
+    pub over-itself : verdictIn (recordAt (after .table) 0) ≡ 2 → ⊥
+    unfolding sightBytes recordBytes
+    over-itself v = omega (arith, first-byte (recordAt (after .table) 0) _ (cut-off .records 0 (omega arith)))
+
+    -- One that calls a spur without flow islanding.
+    pub idle-spur : verdictIn (recordAt (after .table) 2) ≡ 3 → ⊥
+    unfolding sightBytes recordBytes
+    idle-spur v = omega (arith, first-byte (recordAt (after .table) 2) _ (cut-off .records 2 (omega arith)))
 
 -- ---- Limits taken for one another.
 module _ {flow : List ℤ} {table : List ℕ} {after : Lent} {r : Answer} where

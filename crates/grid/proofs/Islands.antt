@@ -80,10 +80,10 @@ module _ (f s : ℕ → ℕ) (on : Group) where
   unfolding together
   way-in n u v w = ways-in (joins n u v) (on n) (joins n u (f n)) (joins n (s n) v) (joins n u (s n)) (joins n (f n) v) w
 
-  self : (n u : ℕ) → joins n u u ≡ true
+  pub together-self : (n u : ℕ) → joins n u u ≡ true
   unfolding together
-  self zero u = eq-eqb u u refl
-  self (suc n) u = way-in n u u (plain (self n u))
+  together-self zero u = eq-eqb u u refl
+  together-self (suc n) u = way-in n u u (plain (together-self n u))
 
   -- A branch below n + 1 is one below n, or n in one of its directions.
   data Last (n v w : ℕ) : Type 0 where
@@ -108,12 +108,12 @@ module _ (f s : ℕ → ℕ) (on : Group) where
   keeps-more n ih u v w (earlier t) (plain e) = plain (ih u v w t e)
   keeps-more n ih u v w (earlier t) (forth c p q) = forth c p (ih (s n) v w t q)
   keeps-more n ih u v w (earlier t) (back c p q) = back c p (ih (f n) v w t q)
-  keeps-more n ih u v w (over c a b) (plain e) = forth c (rw a e) (rw b (self n w))
-  keeps-more n ih u v w (over c a b) (forth _ p q) = forth c p (rw b (self n w))
+  keeps-more n ih u v w (over c a b) (plain e) = forth c (rw a e) (rw b (together-self n w))
+  keeps-more n ih u v w (over c a b) (forth _ p q) = forth c p (rw b (together-self n w))
   keeps-more n ih u v w (over c a b) (back _ p q) = plain (rw (← b) p)
-  keeps-more n ih u v w (under c a b) (plain e) = back c (rw a e) (rw b (self n w))
+  keeps-more n ih u v w (under c a b) (plain e) = back c (rw a e) (rw b (together-self n w))
   keeps-more n ih u v w (under c a b) (forth _ p q) = plain (rw (← b) p)
-  keeps-more n ih u v w (under c a b) (back _ p q) = back c p (rw b (self n w))
+  keeps-more n ih u v w (under c a b) (back _ p q) = back c p (rw b (together-self n w))
 
   keeps : (n u v w : ℕ) → Tied n f s on v w → joins n u v ≡ true → joins n u w ≡ true
   keeps zero u v w (along k l o p q) e = absurd (omega arith)
@@ -142,15 +142,12 @@ module _ (f s : ℕ → ℕ) (on : Group) where
   ]
 
   pub together-complete : (n u v : ℕ) → OnIsland n f s on u v → joins n u v ≡ true
-  together-complete n u v r = reach-within (joins n u) (λ i e. rw e (self n u)) (λ a b t. keeps n u a b t) r
+  together-complete n u v r = reach-within (joins n u) (λ i e. rw e (together-self n u)) (λ a b t. keeps n u a b t) r
 
-  -- No branch in service leaves the group that is computed, and it has its own bus.
+  -- No branch in service leaves the group that is computed.
   pub together-whole : (n u k : ℕ) → k < n → on k ≡ true → joins n u (f k) ≡ joins n u (s k)
   together-whole n u k l o =
       same-truth _ _ (keeps n u (f k) (s k) (along k l o refl refl)) (keeps n u (s k) (f k) (against k l o refl refl))
-
-  pub together-self : (n u : ℕ) → joins n u u ≡ true
-  together-self = self
 
   -- So whether there is a path is decided.
   pub on-island? : (n u v : ℕ) → Dec (OnIsland n f s on u v)

@@ -6,6 +6,7 @@ pub mod ReachWithin
 pub mod Cut
 pub mod OneSmallestGroup
 pub mod Islands
+pub mod OneCrossing
 pub mod Without
 pub mod Tests
 pub mod Trial

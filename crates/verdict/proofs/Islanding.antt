@@ -1,6 +1,6 @@
 -- A branch whose loss would island: no other branch in service leaves one of its sides, so it is short by its whole flow under every fitting flow.
 use mathlib.Core.Path.{_≡_, refl, sym, ap, _∙_}
-use mathlib.Core.Bool.{Bool, true, false, not, cond, true≢false, false≢true}
+use mathlib.Core.Bool.{Bool, true, false, cond, true≢false, false≢true}
 use Prim.Native.Nat.{ℕ, _+_, _≤_, _<_}
 use native.Mathlib.Omega.{arith}
 use native.Mathlib.Decide.{ℕ-discrete}
@@ -8,19 +8,18 @@ use borrow.Author.Tests.{eq-eqb, ne-eqb}
 use lib.Dec.{eqb}
 use lib.IntN.{ℤ, natAbs}
 use Rattle.rows.specs.Sum.{Group, differ, pick}
-use Rattle.rows.proofs.Sum.{over-same, over-zero, pick-part, over-term}
+use Rattle.rows.proofs.Sum.{over-same, over-zero, pick-part}
 use Rattle.quantity.specs.Signed.{posPart, negPart}
 use Rattle.quantity.proofs.Parts.{one-side, size-parts}
-use Rattle.grid.proofs.Net.{crosses, ratings, without}
-use Rattle.grid.proofs.Flow.{Closed}
-use Rattle.grid.proofs.Cut.{exact}
+use Rattle.grid.proofs.Net.{crosses, gains, loads, ratings, without}
 use Rattle.grid.proofs.Islands.{island-within, together, together-self, together-sound, together-whole, on-island?}
+use Rattle.grid.proofs.OneCrossing.{one-crossing}
 use Rattle.grid.proofs.Without.{at-most-without}
 use Rattle.verdict.specs.Case.{Case, Posed, out, Fits}
 use Rattle.verdict.specs.Excess.{oneEnd, Short}
 use Rattle.verdict.specs.Island.{Joined, ShortNumber, joined, islands}
 use Rattle.verdict.proofs.Plain.{netOf, flowOf, lossNet, short-plain}
-use Rattle.verdict.proofs.Fitting.{nothing, fits-settled, none-above, served-other}
+use Rattle.verdict.proofs.Fitting.{ends, fits-balanced, none-above, served-other}
 use Rattle.verdict.proofs.Rest.{rest, rest-one-end}
 
 -- ---- The number of a short branch is one of two, and one alone.
@@ -163,40 +162,23 @@ module _ (C : Case) (f : ℕ → ℤ) (b : ℕ) (p : Posed C) (fits : Fits C (C 
       )
 
   -- ---- And by no less, where the loss would island.
-  own : ℕ → ℕ
-  own k = natAbs (f k)
-
-  own-fits : Fits C own f
-  unfolding own
-  own-fits = record { still = fits .still; within = λ k u o. omega arith; bus = fits .bus }
-
-  -- A group that no other branch in service leaves, and that the flow of b leaves.
-  module _ (U : Group) (shut : Shut C b U) (one : oneEnd C b U ≡ true)
-      (forth : U (C .first b) ≡ true → negPart (f b) ≡ 0) (back : U (C .second b) ≡ true → posPart (f b) ≡ 0) where
-    leaving-is : (k : ℕ) → k < C .branches → oneEnd C k U ≡ true → C .served k ≡ true → k ≡ b
-    leaving-is k u o i = elim (ℕ-discrete k b) [ yes e ↦ e | no n ↦ absurd (true≢false (sym o ∙ shut .whole k u n i)) ]
-
-    closed : Closed (netOf C own) (flowOf f) U
-    unfolding own
-    closed = record { out-ahead = λ k u p q. ahead k u p q (C .served k) refl; out-back = λ k u p q. behind k u p q (C .served k) refl }
+  -- A side that no other branch in service leaves brings by the flow of b more than it takes, and what the others may carry out of it is 0.
+  module _ (l : b < C .branches) (U : Group) (shut : Shut C b U) where
+    still : (k : ℕ) → k < C .branches → (k ≡ b → ⊥) → oneEnd C k U ≡ true → C .served k ≡ false
+    still k u n o = go (C .served k) refl
       where
-        ahead : (k : ℕ) → k < C .branches → U (C .first k) ≡ true → U (C .second k) ≡ false → (s : Bool) → C .served k ≡ s
-            → posPart (f k) ≡ negPart (f k) + pick (C .served k) (natAbs (f k))
-        ahead k u p q true i =
-            let e : k ≡ b = leaving-is k u (rw (p, q) refl) i in
-            let z : negPart (f k) ≡ 0 = rw e (forth (rw (← e) p)) in
-            rw i (omega (arith, size-parts (f k), z))
-        ahead k u p q false i = rw i (omega (arith, ap posPart (fits .still k u i), ap negPart (fits .still k u i)))
+        go : (t : Bool) → C .served k ≡ t → C .served k ≡ false
+        go true i = absurd (true≢false (sym o ∙ shut .whole k u n i))
+        go false i = i
 
-        behind : (k : ℕ) → k < C .branches → U (C .first k) ≡ false → U (C .second k) ≡ true → (s : Bool) → C .served k ≡ s
-            → negPart (f k) ≡ posPart (f k) + pick (C .served k) (natAbs (f k))
-        behind k u p q true i =
-            let e : k ≡ b = leaving-is k u (rw (p, q) refl) i in
-            let z : posPart (f k) ≡ 0 = rw e (back (rw (← e) q)) in
-            rw i (omega (arith, size-parts (f k), z))
-        behind k u p q false i = rw i (omega (arith, ap posPart (fits .still k u i), ap negPart (fits .still k u i)))
+    crossed :
+        gains (lossNet C b) U + (pick (U (C .first b)) (negPart (f b)) + pick (U (C .second b)) (posPart (f b)))
+        ≡ loads (lossNet C b) U + (pick (U (C .first b)) (posPart (f b)) + pick (U (C .second b)) (negPart (f b)))
+    crossed =
+        one-crossing (netOf C (C .limit)) (flowOf f) U b
+        (λ k u n o. let z = fits .still k u (still k u n o) in ap posPart z ∙ sym (ap negPart z)) l (ends C (C .limit) p)
+        (fits-balanced C (C .limit) f fits)
 
-    -- What the others may carry out of it is 0.
     none-leaves : ratings (lossNet C b) U ≡ 0
     none-leaves = over-same _ _ (crosses (lossNet C b) U) _ (λ k. 0) (λ k u. at k u (ℕ-discrete k b) (C .served k) refl) ∙ over-zero _ _
       where
@@ -206,38 +188,25 @@ module _ (C : Case) (f : ℕ → ℤ) (b : ℕ) (p : Posed C) (fits : Fits C (C 
         at k u (no n) true i = rw (shut .whole k u n i) refl
         at k u (no n) false i = rw (ne-eqb k b n, i) refl
 
-    flow-is : b < C .branches → natAbs (f b) ≤ ratings (netOf C own) U
-    unfolding own
-    flow-is l = go (C .served b) refl
-      where
-        term : pick (oneEnd C b U) (pick (C .served b) (natAbs (f b))) ≤ ratings (netOf C own) U
-        term = over-term (C .branches) (crosses (netOf C own) U) (netOf C own .limit) b l
-
-        go : (s : Bool) → C .served b ≡ s → natAbs (f b) ≤ ratings (netOf C own) U
-        go true i = rw (one, i) at term
-        go false i = rw (fits .still b l i) (omega arith)
-
-    all-of-it : (v : ℕ) (S : Group) → b < C .branches → Short C b v S → natAbs (f b) ≤ v
-    all-of-it v S l s =
-        omega (
-          arith,
-          flow-is l,
-          none-leaves,
-          exact (netOf C own) (flowOf f) nothing nothing (fits-settled C own f p own-fits) U closed (λ i u q. refl),
-          over-zero (C .buses) U,
-          short-plain C b v S .0 s .smallest .largest U one,
-        )
-
   pub island-flow : (v : ℕ) (S : Group) → b < C .branches → (Joined C b → ⊥) → Short C b v S → natAbs (f b) ≤ v
   island-flow v S l n s =
+      let U = near C b in
+      let shut = near-shut C b in
+      let far = shut-rest C b U shut in
       let h = near-first C b in
       let g = near-second C b n in
-      elim (ℕ-discrete (negPart (f b)) 0) [
-        | yes e ↦ all-of-it (near C b) (near-shut C b) (rw (h, g) refl) (λ q. e) (λ q. absurd (true≢false (sym q ∙ g))) v S l s
-        | no m ↦
-            all-of-it (rest (near C b)) (shut-rest C b (near C b) (near-shut C b)) (rw (h, g) refl)
-            (λ q. absurd (false≢true (sym (ap not h) ∙ q))) (λ q. omega (arith, one-side (f b))) v S l s
-      ]
+      let most = short-plain C b v S .0 s .smallest .largest in
+      omega (
+        arith,
+        size-parts (f b),
+        one-side (f b),
+        rw (h, g) at (crossed l U shut),
+        none-leaves l U shut,
+        most U (rw (h, g) refl),
+        rw (h, g) at (crossed l (rest U) far),
+        none-leaves l (rest U) far,
+        most (rest U) (rw (h, g) refl),
+      )
 
   -- An islanding branch is short by its whole flow, whichever flow fits.
   pub islands-by-flow : (v : ℕ) (S : Group) → b < C .branches → (Joined C b → ⊥) → Short C b v S → v ≡ natAbs (f b)
