@@ -1,12 +1,16 @@
-// Outage calls and returns beside fresh screens of the book that they leave, for one book.
+// Outage calls, returns and moves of load beside fresh screens of the book that they leave, for one book.
 #pragma once
 #include "book.hpp"
 #include "proved.hpp"
 #include "timing.hpp"
 
-// One call on a branch. The share is that of the records which it writes among all records.
+#include <functional>
+
+using Made = std::function<Answer(Lent &)>;
+
+// One call. The share is that of the records which it writes among all records.
 struct Call {
-    int branch;
+    Made made;
     double share;
     Lent before;
     Lent fresh;
@@ -18,8 +22,6 @@ struct Call {
     double above() const { return time() - share; }
 };
 
-using Made = Answer (*)(Lent &, int);
-
 // All calls of one kind on a book. The program ends where a call and a fresh screen differ.
 class Calls {
   public:
@@ -27,6 +29,9 @@ class Calls {
     static Calls outages(const Book &book);
     // Each of these branches brought back, from what its outage left.
     static Calls returns(const Book &book);
+    // A pump of every bus that takes power, of its load or 50 kW, moved to the bus that stands half the numbers away, where that can be; each from
+    // the same screen of the whole book.
+    static Calls moves(const Book &book);
     // Makes every call once.
     void round();
 
@@ -34,10 +39,9 @@ class Calls {
     const std::vector<Call> &all() const { return all_; }
 
   private:
-    Calls(const Book &book, Made made) : book_(book), made_(made) {}
-    void add(const Lent &before, const Lent &after, int branch, double share);
+    explicit Calls(const Book &book) : book_(book) {}
+    void add(const Made &made, const Lent &before, const Lent &after, double share);
 
     Book book_;
-    Made made_;
     std::vector<Call> all_;
 };

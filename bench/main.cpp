@@ -1,5 +1,5 @@
-// Four measurements in one run, printed as tables: whole screens beside the peers, outage calls and returns beside fresh
-// screens, and growth with the number of buses. Everything is run once in each round, so that a busy machine slows
+// Five measurements in one run, printed as tables: whole screens beside the peers, outage calls, returns and moves of load
+// beside fresh screens, and growth with the number of buses. Everything is run once in each round, so that a busy machine slows
 // all alike, and the least time of all rounds counts.
 #include "calls.hpp"
 #include "compare.hpp"
@@ -79,10 +79,11 @@ int main(int count, char **words) {
     auto screens = each<Comparison>(largest());
     auto loose = each<Comparison>(growing(Ratings::loose));
     auto tight = each<Comparison>(growing(Ratings::tight));
-    std::vector<Calls> outages, returns;
+    std::vector<Calls> outages, returns, moves;
     for (const Book &book : largest()) {
         outages.push_back(Calls::outages(book));
         returns.push_back(Calls::returns(book));
+        moves.push_back(Calls::moves(book));
     }
     for (int i = 0; i < rounds; ++i) {
         round(screens);
@@ -90,11 +91,15 @@ int main(int count, char **words) {
         round(tight);
         // Many calls a book, so that few rounds of them take as long.
         if (i % 4 == 0) round(outages);
+        if (i % 4 == 1) round(moves);
         if (i % 4 == 2) round(returns);
     }
     print_screens(screens);
     print_calls("Outage calls\n\nEach branch that can be taken out is, from the same screen.", outages);
     print_calls("Returns\n\nEach of these branches is brought back, from what its outage left.", returns);
+    print_calls("Moves of load\n\nA pump of each bus that takes power, of its load or 50 kW, is moved to the bus that stands "
+                "half the numbers away, from the same screen.",
+                moves);
     print_growth("loose mesh", loose);
     print_growth("tight mesh", tight);
 }

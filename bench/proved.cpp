@@ -1,4 +1,4 @@
-// The three exported functions that are measured: a slice is a pointer and a length, and a place its item and field.
+// The four exported functions that are measured: a slice is a pointer and a length, and a place its item and field.
 #include "proved.hpp"
 
 #include <algorithm>
@@ -13,6 +13,9 @@ uint8_t callable_take_out(uint32_t percent, uint8_t *book, size_t bytes, int32_t
 uint8_t callable_bring_back(uint32_t percent, uint8_t *book, size_t bytes, const int32_t *flow, size_t flows,
                             uint8_t *table, size_t length, size_t branch, uint32_t *shortage, uint8_t *group,
                             size_t *item, uint8_t *field);
+uint8_t callable_move_load(uint32_t percent, uint8_t *book, size_t bytes, int32_t *flow, size_t flows, uint8_t *table,
+                           size_t length, size_t up, size_t down, uint32_t kw, uint32_t *shortage, uint8_t *group,
+                           size_t *item, uint8_t *field);
 }
 
 namespace {
@@ -41,6 +44,14 @@ Answer proved_bring_back(Lent &lent, int branch) {
     answer.number = callable_bring_back(nameplate, lent.book.data(), lent.book.size(), lent.flow.data(),
                                         lent.flow.size(), lent.table.data(), lent.table.size(), branch,
                                         &answer.shortage, answer.group.data(), &answer.item, &answer.field);
+    return answer;
+}
+
+Answer proved_move_load(Lent &lent, int up, int down, int kw) {
+    Answer answer;
+    answer.number = callable_move_load(nameplate, lent.book.data(), lent.book.size(), lent.flow.data(),
+                                       lent.flow.size(), lent.table.data(), lent.table.size(), up, down, kw,
+                                       &answer.shortage, answer.group.data(), &answer.item, &answer.field);
     return answer;
 }
 

@@ -1,4 +1,4 @@
-// The proved screen, outage call and return, as this program calls them.
+// The proved screen, outage call, return and move of load, as this program calls them.
 #pragma once
 #include "verdict.hpp"
 
@@ -30,6 +30,7 @@ struct Answer {
 Answer proved_screen(Lent &lent);
 Answer proved_take_out(Lent &lent, int branch);
 Answer proved_bring_back(Lent &lent, int branch);
+Answer proved_move_load(Lent &lent, int up, int down, int kw);
 
 // The answer and the records, as verdicts.
 Screened shown(const Answer &answer, const Lent &lent);

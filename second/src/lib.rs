@@ -17,6 +17,7 @@ pub mod definitions {
     pub mod items;
     pub mod limits;
     pub mod list;
+    pub mod load;
     pub mod maxflow;
     pub mod meters;
     pub mod moves;
@@ -36,6 +37,7 @@ pub mod definitions {
 /// Books to try: those with a name, those of source document 001, random ones, and the text form of any.
 pub mod books {
     pub mod islands;
+    pub mod loads;
     pub mod named;
     pub mod percentages;
     pub mod plain;
@@ -43,6 +45,7 @@ pub mod books {
     pub mod random_books;
     pub mod random_forms;
     pub mod random_islands;
+    pub mod random_loads;
     pub mod random_percentages;
     pub mod random_ratings;
     pub mod ratings;
@@ -66,6 +69,8 @@ pub mod streams {
     pub mod make;
     pub mod make_forms;
     pub mod make_islands;
+    pub mod make_loads;
+    pub mod make_loads_refused;
     pub mod make_percentages;
     pub mod make_places;
     pub mod make_ratings;
@@ -75,6 +80,7 @@ pub mod streams {
     pub mod stored;
     pub mod stored_forms;
     pub mod stored_islands;
+    pub mod stored_loads;
     pub mod stored_percentages;
     pub mod stored_places;
     pub mod stored_ratings;
@@ -88,6 +94,8 @@ pub mod judging {
     pub mod faults;
     pub mod faults_forms;
     pub mod faults_islands;
+    pub mod faults_loads;
+    pub mod faults_loads_left;
     pub mod faults_percentages;
     pub mod faults_places;
     pub mod faults_ratings;
@@ -95,6 +103,7 @@ pub mod judging {
     pub mod forms;
     pub mod islands;
     pub mod judge;
+    pub mod loads;
     pub mod misread;
     pub mod moved;
     pub mod percentages;

@@ -55,6 +55,11 @@ fn the_stored_stream_begins_as_it_did_before_branches_islanded() {
     begins_as(52_727, 0xba27_922b_268f_edff);
 }
 
+#[test]
+fn the_stored_stream_begins_as_it_did_before_load_moved() {
+    begins_as(55_823, 0x66cd_5cc0_46b1_2beb);
+}
+
 /// The stream of then, so many bytes, ended in a bad command of 3 bytes, which stops a stream and so is still the last.
 fn begins_as(length: usize, print: u64) {
     let stream = stored::stream();

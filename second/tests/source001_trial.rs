@@ -28,7 +28,7 @@ fn dumps() -> Vec<Dump> {
     for line in output.lines() {
         let words: Vec<&str> = line.split(' ').collect();
         match words[0] {
-            "screen" | "out" | "back" => {
+            "screen" | "out" | "back" | "move" => {
                 answer = line.to_string();
                 if let Some(dump) = dumps.last_mut().filter(|dump| dump.next.is_empty()) {
                     dump.next = answer.clone();

@@ -3,14 +3,17 @@
 use second::books::random::Random;
 use second::definitions::book::unpack;
 use second::definitions::cuts::{fitting_flow, Cutter};
+use second::definitions::load;
 use second::definitions::network::Network;
+use second::definitions::record;
 use second::definitions::screen;
+use second::definitions::switching::Lent;
 use second::judging::judge::judge;
 use second::judging::selftest;
 use second::streams::{make, stored};
 use second::trial::fixed;
 use second::trial::reference::{output, output_with, Done};
-use second::trial::stream::{bytes, commands, Command};
+use second::trial::stream::{bytes, commands, Command, FLOWS, TABLE};
 
 #[test]
 fn commands_come_back_from_their_bytes() {
@@ -29,7 +32,8 @@ fn bad_commands_stop_the_stream() {
     let moves = [&b"L\x02\0\0"[..], b"L\xff\0\0", b"L\0\x08\x35", b"L\x01\xff\xff", b"l\0\0\0"];
     let writes =
         [&b"X\0\x01\0\0\0\x01\0\x81\0\0\0\0"[..], b"X\0\x01\0\0\0\x01\0\0\x05\x01\0\0", b"X\0\x01\0\0\0\x01\0\0\0\0\x08\x35"];
-    for bad in [&b"x"[..]].into_iter().chain(too_large).chain(returns).chain(moves).chain(writes) {
+    let loads = [&b"V\x01\x01\0\0\0\0\0\x01\0\0\0\0"[..], b"V\0\0\x34\x01\0\0\0\x01\0\0\0\0", b"v\0\0\0\0\0\0\0\0\0\0\0\0"];
+    for bad in [&b"x"[..]].into_iter().chain(too_large).chain(returns).chain(moves).chain(writes).chain(loads) {
         assert_eq!(output(bad), "bad command\n");
         assert_eq!(output(&[bad, b"D"].concat()), "bad command\n");
     }
@@ -44,6 +48,8 @@ fn bad_commands_stop_the_stream() {
         b"X\0\x01\0\0\0\x01\0\0\0\0\0",
         b"Y",
         b"Y\x32Y",
+        b"V",
+        b"V\x01\0\x34\0\0\0\0\x01\0\0\0",
     ] {
         assert_eq!(output(cut_short), "bad command\n");
     }
@@ -67,13 +73,16 @@ fn the_stored_stream_visits_every_refusal() {
     let stream = stored::stream();
     let (tally, verdict) = judge(&stream, &output(&stream));
     assert_eq!(verdict, Ok(()));
-    for number in (1..=18).chain([21]) {
+    for number in 1..=21 {
         assert!(tally.of(&format!("refused {number:>2}")) > 0, "{number}");
     }
     for number in [21, 1, 2, 3, 4, 5, 6, 7, 8, 9, 17, 11] {
         assert!(tally.of(&format!("back refused {number:>2}")) > 0, "{number}");
     }
     assert_eq!((tally.of("back refused 10"), tally.of("back refused 12")), (0, 0));
+    for number in [21, 1, 2, 3, 4, 5, 6, 7, 8, 19, 20, 11, 12] {
+        assert!(tally.of(&format!("move refused {number:>2}")) > 0, "{number}");
+    }
     for kind in [
         "screen accepted, with 128 buses and 256 branches",
         "out accepted, with 128 buses and 256 branches",
@@ -109,26 +118,47 @@ fn every_refused_call_of_the_stored_stream_is_followed_by_a_dump() {
     assert!(refused > 100, "{refused}");
 }
 
-/// After a screen another fitting flow and its table are put in place: the branches are taken in another order.
-fn other_choice(done: &mut Done, random: &mut Random) {
-    let accepted = matches!(done.command, Command::Screen { .. }) && done.lines[0].starts_with("screen 0");
-    let Some(network) = accepted.then(|| Network::of(&unpack(done.after.bytes()).unwrap(), done.after.percentage)) else {
-        return;
-    };
-    let count = network.lines.len();
-    let mut order: Vec<usize> = (0..count).collect();
-    for k in (1..count).rev() {
+/// Another flow that a screen or a move of load may leave: the branches are taken in another order.
+fn other_flow(done: &Done, network: &Network, random: &mut Random) -> Vec<i64> {
+    let mut order: Vec<usize> = (0..network.lines.len()).collect();
+    for k in (1..order.len()).rev() {
         order.swap(k, random.below(k + 1));
     }
-    let shuffled =
-        Network { injections: network.injections.clone(), lines: order.iter().map(|&k| network.lines[k].clone()).collect() };
-    for (&k, kw) in order.iter().zip(fitting_flow(&shuffled).unwrap()) {
-        done.after.flow[k] = kw;
+    let mut shuffled = network.clone();
+    shuffled.lines = order.iter().map(|&k| network.lines[k].clone()).collect();
+    let found = match *done.command {
+        Command::Load { shift, .. } => {
+            let flow: Vec<i64> = order.iter().map(|&k| done.before.flow[k]).collect();
+            let lent = Lent { flow: &flow, ..done.before.lent(FLOWS, TABLE) };
+            load::own_result(&shift.turned().changed(&shuffled), &lent, shift).0
+        }
+        _ => fitting_flow(&shuffled).unwrap(),
+    };
+    let mut flow = vec![0; found.len()];
+    order.iter().zip(found).for_each(|(&k, kw)| flow[k] = kw);
+    flow
+}
+
+/// After a screen or a move of load such a flow and its records are put in place.
+fn other_choice(done: &mut Done, random: &mut Random) {
+    let free = matches!(done.command, Command::Screen { .. } | Command::Load { .. });
+    if !free || done.command.answer_in(done.lines) != Some(0) {
+        return;
     }
+    let network = Network::of(&unpack(done.after.bytes()).unwrap(), done.after.percentage);
+    let count = network.lines.len();
+    let after = other_flow(done, &network, random);
+    let anew = match done.command {
+        Command::Load { .. } => load::shortlist(&network, &done.before.table, &done.before.flow[..count], &after),
+        _ => vec![true; count],
+    };
     let mut cutter = Cutter::new(&network);
     for k in 0..count {
-        done.after.table[52 * k..52 * (k + 1)].copy_from_slice(&screen::own_record(&mut cutter, &done.after.flow[..count], k));
+        let kept = || record::stretch(&done.before.table, k).try_into().unwrap();
+        let bytes = if anew[k] { screen::own_record(&mut cutter, &after, k) } else { kept() };
+        done.after.table[52 * k..52 * (k + 1)].copy_from_slice(&bytes);
     }
+    done.after.flow[..count].copy_from_slice(&after);
 }
 
 #[test]

@@ -1,11 +1,13 @@
 //! Books of the new form in a trial: the commands `X` and `L`, the shelf, what is demanded of a move, the kinds counted.
 
+mod judged;
+
+use judged::tally_of;
 use second::books::named::{second_two, triangle};
 use second::books::plain::{moved_up, with_seconds};
 use second::definitions::book::{pack, Book};
 use second::definitions::form::Form;
 use second::definitions::switching::Way;
-use second::judging::judge::judge;
 use second::judging::moved::promised;
 use second::judging::tally::Tally;
 use second::streams::make;
@@ -140,12 +142,6 @@ fn what_is_promised_of_a_move_is_held() {
     assert!(fault(&equal, Form::Old, &shelf(&pack(&triangle(31)))).contains("says something else"));
     assert!(fault(&equal, Form::Old, &shelf(&equal[..25])).contains("refused with 1"));
     assert!(fault(&lent[..32], Form::New, &shelf(&equal)).contains("refused with 1"));
-}
-
-fn tally_of(stream: &[u8]) -> Tally {
-    let (tally, verdict) = judge(stream, &output(stream));
-    assert_eq!(verdict, Ok(()));
-    tally
 }
 
 #[test]

@@ -1,9 +1,14 @@
 //! Branches that would island in a trial: that the judge wants byte 0 exactly so, what is counted, and what the streams hold.
 
+mod judged;
+mod on_book;
+
+use judged::tally_of;
+use on_book::stream;
 use second::books::islands::*;
 use second::books::named::{second_book, triangle};
 use second::books::plain::with_out;
-use second::definitions::book::{pack, Book};
+use second::definitions::book::Book;
 use second::definitions::record::SIZE;
 use second::judging::judge::judge;
 use second::judging::tally::Tally;
@@ -11,19 +16,9 @@ use second::streams::make;
 use second::streams::stored::{self, back, out, WHOLE};
 use second::streams::stored_percentages::told;
 use second::trial::reference::{output, output_with};
-use second::trial::stream::{bytes, Command};
+use second::trial::stream::Command;
 
 const D: Command = Command::Dump;
-
-fn stream(book: &Book, commands: &[Command]) -> Vec<u8> {
-    std::iter::once(&Command::Book(pack(book))).chain(commands).flat_map(bytes).collect()
-}
-
-fn tally_of(stream: &[u8]) -> Tally {
-    let (tally, verdict) = judge(stream, &output(stream));
-    assert_eq!(verdict, Ok(()));
-    tally
-}
 
 /// Byte 0 of the first so many records, in every dump of a stream.
 fn verdicts(stream: &[u8], count: usize) -> Vec<Vec<u8>> {

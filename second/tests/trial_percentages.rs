@@ -1,5 +1,8 @@
 //! Percentages in a trial: the command `Y`, 21 in its place, what the judge holds a run to, what is counted, what the streams hold.
 
+mod judged;
+
+use judged::tally_of;
 use second::books::named::{second_two, triangle};
 use second::books::percentages::*;
 use second::books::plain::with_out;
@@ -35,12 +38,6 @@ fn answers(commands: &[Command]) -> Vec<String> {
     let calls = ["screen", "out", "back", "read", "write", "moved", "meters"];
     let text = output(&stream(commands));
     text.lines().filter(|line| calls.contains(&line.split(' ').next().unwrap())).map(String::from).collect()
-}
-
-fn tally_of(stream: &[u8]) -> Tally {
-    let (tally, verdict) = judge(stream, &output(stream));
-    assert_eq!(verdict, Ok(()));
-    tally
 }
 
 fn counted(commands: &[Command]) -> Tally {
@@ -324,7 +321,7 @@ fn the_stored_stream_holds_every_kind_of_percentage() {
 #[test]
 fn random_streams_hold_every_kind_of_percentage() {
     let mut tally = Tally::default();
-    (1..=500).for_each(|seed| tally.join(&tally_of(&make::stream(seed))));
+    (1..=650).for_each(|seed| tally.join(&tally_of(&make::stream(seed))));
     for kind in kinds() {
         assert!(tally.of(&kind) >= 2, "{kind}\n{tally}");
     }

@@ -1,18 +1,22 @@
 //! Two limits a branch in a trial: what the stored stream and random ones hold, what is counted, and either form alike.
 
+mod judged;
+mod on_book;
+
+use judged::tally_of;
+use on_book::stream;
 use second::books::named::triangle;
 use second::books::plain::moved_up;
 use second::books::random::Random;
 use second::books::random_books::{planned, Plan};
 use second::books::ratings::*;
-use second::definitions::book::{pack, Book};
+use second::definitions::book::Book;
 use second::definitions::percentage::NAMEPLATE;
-use second::judging::judge::judge;
 use second::judging::tally::Tally;
 use second::streams::make;
 use second::streams::stored::{self, back, out, WHOLE};
 use second::trial::reference::output;
-use second::trial::stream::{bytes, Command};
+use second::trial::stream::Command;
 
 const D: Command = Command::Dump;
 const CARRYING: &str = "out refused 12, from a true table, shown as carrying";
@@ -23,16 +27,6 @@ const KEPT: &str = "out accepted, where limits differ, that moved flow within th
 const ELSEWHERE: &str = "out accepted, from a true table, that fell back to all branches";
 const OUT_11: &str = "out refused 11, the flow fits by the second limits";
 const BACK_11: &str = "back refused 11, the flow fits by the second limits";
-
-fn stream(book: &Book, commands: &[Command]) -> Vec<u8> {
-    std::iter::once(&Command::Book(pack(book))).chain(commands).flat_map(bytes).collect()
-}
-
-fn tally_of(stream: &[u8]) -> Tally {
-    let (tally, verdict) = judge(stream, &output(stream));
-    assert_eq!(verdict, Ok(()));
-    tally
-}
 
 /// The answers of a stream, in order.
 fn answers(stream: &[u8]) -> Vec<String> {

@@ -1,5 +1,8 @@
 //! Branches that come back in a trial: the judge's demands and counts by small streams, and by many random ones.
 
+mod judged;
+
+use judged::tally_of;
 use second::books::named::triangle;
 use second::books::plain::with_out;
 use second::definitions::book::{pack, Book};
@@ -41,12 +44,6 @@ fn on_triangle(commands: &[Command]) -> Vec<u8> {
 }
 
 /// What is counted of a good stream.
-fn tally_of(stream: &[u8]) -> Tally {
-    let (tally, verdict) = judge(stream, &output(stream));
-    assert_eq!(verdict, Ok(()));
-    tally
-}
-
 fn counted(commands: &[Command]) -> Tally {
     tally_of(&on_triangle(commands))
 }
@@ -122,7 +119,7 @@ fn undone_looks_at_the_book_and_at_verdicts_shortages_and_groups() {
     let with = |change: &dyn Fn(&mut Spaces)| {
         let mut end = start.clone();
         change(&mut end);
-        undone(&start, &end, 3)
+        undone("out and back", &start, &end, 3)
     };
     assert_eq!(with(&|_| {}), Ok(()));
     assert_eq!(with(&|end| end.flow[0] += 1), Ok(()));
@@ -137,7 +134,7 @@ fn undone_looks_at_the_book_and_at_verdicts_shortages_and_groups() {
 #[test]
 fn random_streams_hold_returns_of_every_kind() {
     let mut tally = Tally::default();
-    for seed in 1..=340 {
+    for seed in 1..=600 {
         let stream = make::stream(seed);
         let (counted, verdict) = judge(&stream, &output(&stream));
         assert_eq!(verdict, Ok(()), "seed {seed}");

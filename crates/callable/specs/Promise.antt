@@ -1,4 +1,4 @@
--- What the exported calls promise: those of `screen`, `outage`, `restore` and `forms`, with the answer in its parts.
+-- What the exported calls promise: those of `screen`, `outage`, `restore`, `transfer` and `forms`, with the answer in its parts.
 use mathlib.Core.Path.{_≡_}
 use mathlib.Core.List.{List}
 use Prim.Native.Nat.{ℕ}

@@ -1,4 +1,5 @@
-// The screen, the outage call, the return and the move of a book to a form under C's calling convention, for programs in other languages to link.
+// The screen, the outage call, the return, the move of load and that of a book to a form under C's calling convention, for programs in other
+// languages to link.
 // A slice is a pointer and a length; the answer comes back as its number, its shortage, its group and its place. Item and field are both 0 where the
 // answer has no place.
 ghost use Rattle.answer.specs.Answer.{placeOf, noGroup};
@@ -8,6 +9,7 @@ ghost use Rattle.state.specs.Call.{lent};
 ghost use Rattle.screen.specs.Promise.{ScreenEnds};
 ghost use Rattle.outage.specs.Promise.{TakeEnds};
 ghost use Rattle.restore.specs.Promise.{BackEnds};
+ghost use Rattle.transfer.specs.Promise.{TransferEnds};
 ghost use Rattle.callable.specs.Promise.{PlaceTold, SaidInParts};
 ghost use Rattle.callable.specs.Inside.{Parts};
 use answer::Answer;
@@ -90,6 +92,26 @@ pub extern "C" fn callable_bring_back(
     ensures { λ r. ⌜ SaidInParts (BackEnds percent branch (lent (now (book .entry)) (now (flow .entry)) (now (table .entry))) (lent (now (book .exit)) (now (flow .entry)) (now (table .exit)))) r (now (shortage .exit)) (now (group .exit)) (now (item .exit)) (now (field .exit)) ⌝ }
 {
     let answer = restore::bring_back(percent, book, flow, table, branch);
+    tell(answer, shortage, group, item, field)
+}
+
+#[no_mangle]
+pub extern "C" fn callable_move_load(
+    percent: u32,
+    book: &mut [u8],
+    flow: &mut [i32],
+    table: &mut [u8],
+    up: usize,
+    down: usize,
+    kw: u32,
+    shortage: &mut u32,
+    group: &mut [u8; 16],
+    item: &mut usize,
+    field: &mut u8,
+) -> u8
+    ensures { λ r. ⌜ SaidInParts (TransferEnds percent up down kw (lent (now (book .entry)) (now (flow .entry)) (now (table .entry))) (lent (now (book .exit)) (now (flow .exit)) (now (table .exit)))) r (now (shortage .exit)) (now (group .exit)) (now (item .exit)) (now (field .exit)) ⌝ }
+{
+    let answer = transfer::move_load(percent, book, flow, table, up, down, kw);
     tell(answer, shortage, group, item, field)
 }
 

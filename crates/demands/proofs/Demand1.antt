@@ -35,6 +35,8 @@ use Rattle.outage.specs.Promise.{takeNumbers, TakeEnds}
 use Rattle.outage.proofs.Checking.{take-gives}
 use Rattle.restore.specs.Promise.{backNumbers, BackEnds}
 use Rattle.restore.proofs.Checking.{back-gives}
+use Rattle.transfer.specs.Promise.{transferNumbers, TransferEnds}
+use Rattle.transfer.proofs.Checking.{transfer-gives}
 use Rattle.demands.specs.Answered.{Answered}
 use Rattle.demands.proofs.Ends.{back-never-12}
 
@@ -136,6 +138,11 @@ module _ {percent b : ℕ} {before after : Lent} {r : Answer} where
   pub back-never-10 : BackEnds percent b before after r → numberOf (r .outcome) ≡ 10 → ⊥
   unfolding member
   back-never-10 e = never (backs e) 10 refl
+
+pub transfers : {percent up down kw : ℕ} {before after : Lent} {r : Answer} → TransferEnds percent up down kw before after r
+    → Answered (11 ∷ 12 ∷ transferNumbers) (after ≡ before) r
+unfolding member inside
+transfers e = answers transferNumbers (11 ∷ 12 ∷ transferNumbers) (transfer-gives _ _ _ _ _ _ _) refl refl (λ o. refl) e
 
 -- ---- The first test that fails is the one that is given.
 pub screen-first : {percent : ℕ} {before after : Lent} {r : Answer} → ScreenEnds percent before after r → (screenCheck percent before ≡ Accepted → ⊥)

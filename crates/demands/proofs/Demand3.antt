@@ -1,5 +1,5 @@
--- Demand 3, over the promises of `screen`, `take_out` and `bring_back` alone: feeders are taken out and come back one after another in a run under
--- one percentage. Here: what any run leaves, and an outage in it. A return in it: Returns.antt.
+-- Demand 3, over the promises of `screen`, `take_out`, `bring_back` and `move_load` alone: feeders are taken out and come back and load is moved, one
+-- after another in a run under one percentage. Here: what any run leaves, and an outage in it. A return in it: Returns.antt; a move: Transfers.antt.
 use mathlib.Core.Path.{_≡_, sym, _∙_, subst}
 use mathlib.Core.Bool.{true, false, true≢false}
 use mathlib.Core.List.{List}
@@ -12,7 +12,6 @@ use Rattle.rows.specs.Row.{nth}
 use Rattle.answer.specs.Answer.{numberOf, accepted}
 use Rattle.answer.specs.declared.Outcome.the-variants.{Accepted}
 use Rattle.answer.specs.declared.Answer.{Answer}
-use Rattle.answer.proofs.Said.{said-same}
 use Rattle.quantity.specs.Rating.{percentOut}
 use Rattle.bits.specs.Field.{setBit}
 use Rattle.layout.specs.Layout.{branchesIn, statusBit, bookOf}
@@ -24,20 +23,22 @@ use Rattle.verdict.proofs.Fitting.{posed-status}
 use Rattle.verdict.proofs.Loss.{Level}
 use Rattle.verdict.proofs.Islanding.{number-above}
 use Rattle.verdict.proofs.Keep.{stable}
+use Rattle.verdict.proofs.Shift.{shift-true}
 use Rattle.verdict.proofs.VerdictByCase.{tables-agree}
 use Rattle.forms.proofs.MovedBook.{Equal}
 use Rattle.state.specs.Case.{caseIn}
-use Rattle.state.specs.Call as call
 use Rattle.state.specs.Call.{OverloadSaid}
 use Rattle.state.proofs.Checked.{Passed, passing, posed-passed}
 use Rattle.state.proofs.Status.{branches-of, level-of, restates}
-use Rattle.state.proofs.OneOverload.{overloaded-same, fits-not-over}
+use Rattle.state.proofs.OneOverload.{fits-not-over}
 use Rattle.screen.specs.Promise.{screenCheck, ScreenEnds, refuses, overloads, accepts}
 use Rattle.outage.specs.Promise.{Touched, Confined, takeCheck, TakeEnds}
 use Rattle.outage.proofs.Checking.{taking}
 use Rattle.restore.specs.Promise.{BackEnds}
-use Rattle.demands.specs.Run.{Run, screened, taken, returned}
-use Rattle.demands.proofs.Ends.{done, number-of, take-done, back-done, is-accepted}
+use Rattle.transfer.specs.Promise.{TransferEnds}
+use Rattle.demands.specs.Run.{Run, screened, taken, returned, moved}
+use Rattle.demands.proofs.Ends.{done, number-of, take-done, back-done, transfer-done, is-accepted}
+use Rattle.demands.proofs.Fresh.{ends-fresh}
 use Rattle.demands.proofs.Calls.{call-true, back-true}
 
 -- ---- What stands after a run: a percentage within its range, an accepted book, and a table true of its case and of the flow.
@@ -55,7 +56,7 @@ stands-passed {percent} {l} s = record {
   table-room = omega (arith, branches-of percent (l .book), s .table-true .long);
 }
 
--- An accepted outage leaves it, and so does an accepted return.
+-- An accepted outage leaves it, and so do an accepted return and an accepted move of load.
 module _ {percent : ℕ} {before after : Lent} {b : ℕ} {r : Answer} where
   pub take-stands : Stands percent before → TakeEnds percent b before after r → r ≡ accepted → Stands percent after
   take-stands s e a =
@@ -75,7 +76,17 @@ module _ {percent : ℕ} {before after : Lent} {b : ℕ} {r : Answer} where
         table-true = rw (d .brought .case-is) (back-true (d .posed-case) (d .passes .out-now) (d .brought) (s .table-true));
       }
 
--- Any run of outages and returns leaves it.
+pub transfer-stands : {percent up down kw : ℕ} {before after : Lent} {r : Answer} → Stands percent before
+    → TransferEnds percent up down kw before after r → r ≡ accepted → Stands percent after
+transfer-stands {up = up} {down = down} {kw = kw} {before = before} {after = after} s e a =
+    let d = transfer-done e a in
+    record {
+      in-range = s .in-range;
+      book = d .moved .book-accepted;
+      table-true = rw (d .moved .case-is) (shift-true _ up down kw before after (d .posed-after) (s .table-true) (d .moved .updated));
+    }
+
+-- Any run of outages, returns and moves leaves it.
 pub run-stands : {percent : ℕ} {l : Lent} → Run percent l → Stands percent l
 run-stands (screened {before} {after} e a) =
     let d = done e a in
@@ -86,6 +97,7 @@ run-stands (screened {before} {after} e a) =
     }
 run-stands (taken b run e a) = take-stands (run-stands run) e a
 run-stands (returned b run e a) = back-stands (run-stands run) e a
+run-stands (moved up down kw run e a) = transfer-stands (run-stands run) e a
 
 -- ---- The reroute that a carrying branch's record promises.
 carried-by : (C : Case) (f : ℕ → ℤ) (b : ℕ) (rec : List ℕ) → Told C f b rec → verdictIn rec ≡ 1 → Rerouted C f b rec
@@ -193,21 +205,7 @@ module _ {percent : ℕ} {now : Lent} (run : Run percent now) where
             })
 
         pub call-fresh : r ≡ s
-        call-fresh = go e f
-          where
-            over : OverloadSaid (caseIn percent (fresh .book)) s → OverloadSaid (out C b) s
-            over o = subst (λ (D : Case). OverloadSaid D s) same-case o
-
-            go : TakeEnds percent b now after r → ScreenEnds percent fresh left s → r ≡ s
-            go (call.refuses n a k) y = absurd (n call-checked)
-            go (call.unfit c n a k) y = absurd (n run-fits)
-            go (call.overloads c h o k) (refuses n a k′) = absurd (n screen-checked)
-            go (call.overloads c h o k) (overloads c′ o′ k′) = overloaded-same (out C b) r s o (over o′)
-            go (call.overloads c h o k) (accepts c′ a x) =
-                absurd (fits-not-over (out C b) (on (left .flow)) r posed-out (subst (λ (D : Case). Fits D (D .limit) (on (left .flow))) same-case (x .table-true .fits)) o)
-            go (call.accepts c h a o) (refuses n a′ k) = absurd (n screen-checked)
-            go (call.accepts c h a o) (overloads c′ o′ k′) = absurd (fits-not-over (out C b) (on (after .flow)) s posed-out (o .updated .fits) (over o′))
-            go (call.accepts c h a o) (accepts c′ a′ x) = said-same a a′
+        call-fresh = ends-fresh call-checked run-fits posed-out (λ o. o .updated .fits) same-case screen-checked e f
 
         pub call-refused : (numberOf (r .outcome) ≡ 12) ↔ (numberOf (s .outcome) ≡ 12)
         call-refused = (λ n. sym (number-of call-fresh) ∙ n, λ n. number-of call-fresh ∙ n)

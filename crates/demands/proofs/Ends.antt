@@ -12,7 +12,7 @@ use Rattle.answer.specs.declared.Outcome.the-variants.{Accepted}
 use Rattle.answer.specs.declared.Answer.{Answer}
 use Rattle.answer.proofs.Said.{said-accepted, said-same}
 use Rattle.answer.proofs.Numbers.{Gives, gives-not, said-is}
-use Rattle.verdict.specs.Case.{Case, Posed, back, on, Fits}
+use Rattle.verdict.specs.Case.{Case, Posed, back, shifted, on, Fits}
 use Rattle.verdict.specs.Update.{Lent}
 use Rattle.verdict.proofs.Fitting.{posed-status}
 use Rattle.verdict.proofs.Back.{fits-back}
@@ -27,6 +27,10 @@ use Rattle.outage.specs.Promise.{takeNumbers, TakenOut, TakeEnds}
 use Rattle.outage.proofs.Checking.{Takeable, takeable, take-gives}
 use Rattle.restore.specs.Promise.{backNumbers, BroughtBack, BackEnds}
 use Rattle.restore.proofs.Checking.{Returnable, returnable, returning, back-gives}
+use Rattle.quantity.proofs.Limits.{full-at-most}
+use Rattle.transfer.specs.Promise.{transferNumbers, Transferred, TransferEnds}
+use Rattle.transfer.proofs.Checking.{Movable, movable, transfer-gives}
+use Rattle.transfer.proofs.BookShifted.{shifted-posed}
 
 pub number-of : {r s : Answer} → r ≡ s → numberOf (r .outcome) ≡ numberOf (s .outcome)
 number-of e = ap (λ (x : Answer). numberOf (x .outcome)) e
@@ -136,3 +140,22 @@ module _ {percent b : ℕ} {before after : Lent} {r : Answer} where
   back-accepted t f (call.unfit c n a k) = absurd (n f)
   back-accepted t f (call.overloads c h o k) = absurd (back-never-12 (call.overloads c h o k) (o .answer .number-is))
   back-accepted t f (call.accepts c h a o) = is-accepted a
+
+-- ---- A move of load.
+pub movable-posed : {percent : ℕ} {bs : List ℕ} {flows bytes up down kw : ℕ} → Movable percent bs flows bytes up down kw
+    → Posed (shifted (caseIn percent bs) up down kw)
+movable-posed m = shifted-posed (m .within) (m .apart) (full-at-most (m .passes .in-range))
+
+pub record TransferDone (percent up down kw : ℕ) (before after : Lent) : Type 0 where
+  pub passes : Movable percent (before .book) (length (before .flow)) (length (before .table)) up down kw
+  pub posed-after : Posed (shifted (caseIn percent (before .book)) up down kw)
+  pub fitted : Fits (caseIn percent (before .book)) (caseIn percent (before .book) .limit) (on (before .flow))
+  pub moved : Transferred percent up down kw before after
+
+pub transfer-done : {percent up down kw : ℕ} {before after : Lent} {r : Answer} → TransferEnds percent up down kw before after r → r ≡ accepted
+    → TransferDone percent up down kw before after
+unfolding member
+transfer-done {percent} {up} {down} {kw} {before} e a =
+    let d = call-done transferNumbers refl refl (transfer-gives _ _ _ _ _ _ _) e a in
+    let t = movable (before .book) (length (before .flow)) (length (before .table)) up down kw (d .passes) in
+    record { passes = t; posed-after = movable-posed t; fitted = d .fitted; moved = d .did }

@@ -1,34 +1,42 @@
 -- A book and the same book moved to another form: what a screen or a call on the moved one ends with, the one on the first may end with too, lent the
 -- same flow and table. So by uniqueness they answer alike.
 use mathlib.Core.Path.{_≡_, refl, sym, ap, _∙_, subst}
+use mathlib.Core.Bool.{Bool, true, false, _||_}
 use mathlib.Core.List.{List}
-use Prim.Native.Nat.{ℕ, _<_}
+use Prim.Native.Nat.{ℕ, _≤_, _<_}
 use native.Mathlib.Omega.{arith}
-use lib.IntN.{ℤ, pos}
+use borrow.Author.Tests.{leb-false}
+use lib.Dec.{leb, eqb}
+use lib.IntN.{ℤ, pos, natAbs, _-ℤ_}
 use Rattle.answer.specs.declared.Outcome.{Outcome}
 use Rattle.answer.specs.declared.Outcome.the-variants.{Accepted}
 use Rattle.answer.specs.declared.Answer.{Answer}
-use Rattle.answer.specs.Answer.{SaidBy}
-use Rattle.bits.specs.Field.{setBit}
+use Rattle.rows.proofs.Row.{either-false}
+use Rattle.answer.specs.Answer.{SaidBy, refuseIf, andThen}
+use Rattle.bits.specs.Field.{Bytes, setBit}
 use Rattle.layout.specs.declared.Form.{Form}
-use Rattle.layout.specs.Layout.{branchesIn, statusBit}
+use Rattle.layout.specs.Layout.{busesIn, branchesIn, injectionAt, statusBit}
 use Rattle.layout.specs.Check.{checkOf}
-use Rattle.verdict.specs.Case.{Case, out, back, on, Fits}
+use Rattle.verdict.specs.Case.{Case, out, back, shifted, on, Fits}
 use Rattle.verdict.specs.Record.{recordAt}
-use Rattle.verdict.specs.Update.{Lent, Beyond, Shortlisted, Renewed}
+use Rattle.verdict.specs.Update.{Lent, Beyond, FlowChanged, Shortlisted, Renewed}
 use Rattle.state.specs.Case.{caseIn}
 use Rattle.state.specs.Call as call
 use Rattle.state.specs.Call.{lentCheck, lent, OverloadSaid, Ends}
-use Rattle.state.proofs.Status.{branches-of, Restated, restates}
+use Rattle.state.proofs.Status.{branches-of, case-buses, Restated, restates}
 use Rattle.switch.specs.Check.{branchCheck}
 use Rattle.switch.proofs.Checking.{switchable}
 use Rattle.screen.specs.Promise.{ScreenEnds, refuses, overloads, accepts}
 use Rattle.outage.specs.Promise.{Touched, Confined, TakenOut, TakeEnds}
 use Rattle.restore.specs.Promise.{Anew, BroughtBack, BackEnds}
+use Rattle.transfer.specs.Promise.{leavesRange, transferCheck, shiftedBytes, Transferred, TransferEnds}
+use Rattle.transfer.proofs.Checking.{movable}
+use Rattle.transfer.proofs.BookShifted.{case-injection, shifted-accepted, shifted-case}
 use Rattle.demands.proofs.Moves.{movedBytes, MovedTo}
 use Rattle.demands.proofs.Unique.{screens-same}
 use Rattle.demands.proofs.UniqueCalls.{calls-same}
 use Rattle.demands.proofs.UniqueReturns.{returns-same}
+use Rattle.demands.proofs.UniqueTransfers.{transfers-same}
 
 -- The lent flow and table beside another book.
 abbrev beside : List ℕ → Lent → Lent
@@ -48,6 +56,31 @@ module _ (percent : ℕ) {bs : List ℕ} {f : Form} {room room′ : List ℕ} (o
   branch-moved : (flows bytes b v n : ℕ) → branchCheck percent moved flows bytes b v n ≡ branchCheck percent bs flows bytes b v n
   unfolding branchCheck
   branch-moved flows bytes b v n = rw (check-moved flows bytes, count-moved, m .says) refl
+
+  -- A bus of the book has the same injection in either form, and past the last one neither is looked at.
+  buses-moved : busesIn moved ≡ busesIn bs
+  buses-moved = sym (case-buses percent moved) ∙ ap (λ (C : Case). C .buses) (m .same-case percent) ∙ case-buses percent bs
+
+  injection-moved : (k : ℕ) → k < busesIn bs → injectionAt moved k ≡ injectionAt bs k
+  injection-moved k l =
+      sym (case-injection percent moved k (rw buses-moved l)) ∙ ap (λ (C : Case). C .injection k) (m .same-case percent)
+      ∙ case-injection percent bs k l
+
+  transfer-check-moved : (flows bytes up down kw : ℕ) → transferCheck percent moved flows bytes up down kw
+      ≡ transferCheck percent bs flows bytes up down kw
+  unfolding transferCheck
+  transfer-check-moved flows bytes up down kw =
+      rw (check-moved flows bytes, buses-moved)
+      (ap (andThen (lentCheck percent bs flows bytes))
+      (go (leb (busesIn bs) up || (leb (busesIn bs) down || eqb up down)) refl))
+    where
+      go : (t : Bool) → (leb (busesIn bs) up || (leb (busesIn bs) down || eqb up down)) ≡ t
+          → refuseIf t 19 (refuseIf (leavesRange moved up down kw) 20 Accepted) ≡ refuseIf t 19 (refuseIf (leavesRange bs up down kw) 20 Accepted)
+      go true e = refl
+      go false e =
+          let a = either-false (leb (busesIn bs) up) _ e in
+          let b = either-false (leb (busesIn bs) down) _ (a .1) in
+          rw (injection-moved up (leb-false (busesIn bs) up (a .0)), injection-moved down (leb-false (busesIn bs) down (b .0))) refl
 
   -- ---- Screens.
   module _ {flow : List ℤ} {table : List ℕ} {after : Lent} {r : Answer} where
@@ -155,3 +188,27 @@ module _ (percent : ℕ) {bs : List ℕ} {f : Form} {room room′ : List ℕ} (o
     pub backs-alike : {b : ℕ} {one : Lent} {r s : Answer} → BackEnds percent b (lent bs flow table) one s
         → BackEnds percent b (lent moved flow table) after r → s ≡ r
     backs-alike x y = returns-same x (back-moved y .1) .same .answers
+
+    -- The bytes lent are bytes, as the machine's are.
+    pub transfer-moved : {up down kw : ℕ} {r : Answer} → Bytes bs → TransferEnds percent up down kw (lent moved flow table) after r
+        → (bs′ : List ℕ) × TransferEnds percent up down kw (lent bs flow table) (beside bs′ after) r
+    transfer-moved {up} {down} {kw} whole = ends-moved (λ bs′. Transferred percent up down kw (lent bs flow table) (beside bs′ after))
+        (transfer-check-moved _ _ up down kw) (m .same-case percent)
+        (ap (λ (C : Case). shifted C up down kw) (m .same-case percent)) (λ c o.
+        let s = movable bs _ _ up down kw c in (
+          shiftedBytes bs up down kw,
+          record {
+            bytes = whole;
+            book-is = refl;
+            book-accepted = shifted-accepted (s .within) (s .apart);
+            case-is = shifted-case (s .within) (s .apart) percent;
+            updated = renewed-moved (λ C. shifted C up down kw)
+                (λ C. Shortlisted (shifted C up down kw) table (FlowChanged (on flow) (on (after .flow)))) _ (o .updated);
+            slight = subst (λ (C : Case). (j : ℕ) → j < C .branches → natAbs (on (after .flow) j -ℤ on flow j) ≤ kw)
+                (m .same-case percent) (o .slight);
+          },
+        ))
+
+    pub transfers-alike : {up down kw : ℕ} {one : Lent} {r s : Answer} → Bytes bs → TransferEnds percent up down kw (lent bs flow table) one s
+        → TransferEnds percent up down kw (lent moved flow table) after r → s ≡ r
+    transfers-alike whole x y = transfers-same x (transfer-moved whole y .1) .answers

@@ -26,9 +26,9 @@ use Rattle.demands.proofs.Ends.{TakeDone, take-done, back-done}
 use Rattle.demands.proofs.Demand3.{Stands, take-stands, back-stands}
 use Rattle.demands.proofs.Returns.{stands-returns}
 
--- What a return leaves after an outage of the same branch.
-pub record OutAndBack (percent : ℕ) (before after : Lent) (s : Answer) : Type 0 where
-  pub comes-back : s ≡ accepted
+-- What a call leaves that undoes the one before it.
+pub record Undone (percent : ℕ) (before after : Lent) (s : Answer) : Type 0 where
+  pub goes-back : s ≡ accepted
   pub same-book : after .book ≡ before .book
   pub table-true : TrueTable (caseIn percent (before .book)) (after .flow) (after .table)
   -- bytes 0 to 19: verdict, shortage and group
@@ -51,7 +51,7 @@ book-again {percent} {before} {mid} {after} {b} d e =
 -- From any true table.
 pub out-and-back : {percent : ℕ} {before mid after : Lent} {b : ℕ} {r s : Answer}
     → TrueTable (caseIn percent (before .book)) (before .flow) (before .table)
-    → TakeEnds percent b before mid r → r ≡ accepted → BackEnds percent b mid after s → OutAndBack percent before after s
+    → TakeEnds percent b before mid r → r ≡ accepted → BackEnds percent b mid after s → Undone percent before after s
 out-and-back {percent} {before} {mid} {after} {b} {r} {s} t e a f =
     let bs = before .book in
     let d = take-done e a in
@@ -64,4 +64,4 @@ out-and-back {percent} {before} {mid} {after} {b} {r} {s} t e a f =
     let x = stands-returns m (omega (arith, d .passes .there)) off f in
     let same = book-again d (back-done f x .brought .book-is) in
     let y = subst (λ (l : List ℕ). TrueTable (caseIn percent l) (after .flow) (after .table)) same (back-stands m f x .table-true) in
-    record { comes-back = x; same-book = same; table-true = y; same-shown = tables-agree (caseIn percent bs) _ _ _ _ y t }
+    record { goes-back = x; same-book = same; table-true = y; same-shown = tables-agree (caseIn percent bs) _ _ _ _ y t }

@@ -29,6 +29,8 @@ use Rattle.switch.proofs.Checking.{by-lent, branch-gives}
 use Rattle.screen.specs.Promise.{screenCheck, ScreenEnds, refuses, overloads, accepts}
 use Rattle.outage.specs.Promise.{TakeEnds}
 use Rattle.restore.specs.Promise.{BackEnds}
+use Rattle.transfer.specs.Promise.{transferCheck, TransferEnds}
+use Rattle.transfer.proofs.Checking as transfer
 use Rattle.demands.specs.Answered.{PercentFirst}
 
 -- ---- Refusal 21.
@@ -62,6 +64,17 @@ module _ (percent : ℕ) (bs : List ℕ) (flows bytes : ℕ) where
     within = λ i.
         let g = gives-more (8 ∷ checkNumbers) (pastPercent n) (lentCheck percent bs flows bytes) refl (in-range-gives percent bs flows bytes i) in
         not-21 (pastPercent n) (branchCheck percent bs flows bytes b v n) (branch-gives percent bs flows bytes b v n (pastPercent n) g refl p) m;
+  }
+
+  -- 19 and 20 of a move of load.
+  transfer-guarded : (up down kw : ℕ) → Guarded percent (transferCheck percent bs flows bytes up down kw)
+  unfolding member inside
+  transfer-guarded up down kw = record {
+    outside = λ o. sym (transfer.by-lent percent bs flows bytes up down kw (refusal 21) (by-percent percent bs flows bytes o) (refusal-stands 21));
+    within = λ i.
+        let ns : List ℕ = 19 ∷ 20 ∷ 8 ∷ checkNumbers in
+        let g = gives-more (8 ∷ checkNumbers) ns (lentCheck percent bs flows bytes) refl (in-range-gives percent bs flows bytes i) in
+        not-21 ns (transferCheck percent bs flows bytes up down kw) (transfer.rest-gives percent bs flows bytes up down kw ns g refl refl) refl;
   }
 
 module _ {percent : ℕ} {before after : Lent} {r : Answer} where
@@ -109,6 +122,9 @@ module _ {percent : ℕ} {before after : Lent} {r : Answer} where
   unfolding member
   back-percent {b} e = ends-percent (branch-guarded _ _ _ _ b 1 17 refl refl) e
 
+  pub transfer-percent : {up down kw : ℕ} → TransferEnds percent up down kw before after r → PercentFirst percent before after r
+  transfer-percent {up} {down} {kw} e = ends-percent (transfer-guarded _ _ _ _ up down kw) e
+
 -- An answer that has a place had a percentage in range, so that what is said of such an answer (WhereWrong.antt) is said of every one.
 pub placed-in-range : {percent : ℕ} {before after : Lent} {r : Answer} → PercentFirst percent before after r → {i j : ℕ}
     → placeOf (r .outcome) ≡ At i j → percentOut percent ≡ false
@@ -127,6 +143,10 @@ module _ (p q : ℕ) (one : percentOut p ≡ false) (two : percentOut q ≡ fals
   pub branch-alike : (b v n : ℕ) → branchCheck p bs flows bytes b v n ≡ branchCheck q bs flows bytes b v n
   unfolding branchCheck
   branch-alike b v n = rw lent-alike refl
+
+  pub transfer-alike : (up down kw : ℕ) → transferCheck p bs flows bytes up down kw ≡ transferCheck q bs flows bytes up down kw
+  unfolding transferCheck
+  transfer-alike up down kw = rw lent-alike refl
 
 -- ---- The limits of branch k.
 module _ (b : Book) (k : ℕ) where

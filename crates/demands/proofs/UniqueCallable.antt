@@ -8,6 +8,7 @@ use Rattle.verdict.specs.Update.{Lent}
 use Rattle.screen.specs.Promise.{ScreenEnds}
 use Rattle.outage.specs.Promise.{TakeEnds}
 use Rattle.restore.specs.Promise.{BackEnds}
+use Rattle.transfer.specs.Promise.{TransferEnds}
 use Rattle.layout.specs.declared.Form.{Form}
 use Rattle.pack.proofs.WrittenOnce.{SameWritten}
 use Rattle.forms.specs.Move.{BookMoved}
@@ -17,6 +18,7 @@ use Rattle.demands.specs.Same.{FreeFlow, SameResult}
 use Rattle.demands.proofs.Unique.{Each, screens-same}
 use Rattle.demands.proofs.UniqueCalls.{lentCase, AgreeTaken, SameTaken, calls-same}
 use Rattle.demands.proofs.UniqueReturns.{SameReturn, returns-same}
+use Rattle.demands.proofs.UniqueTransfers.{movedCase, AgreeMoved, SameMoved, transfers-same}
 
 -- The parts of two answers are the same, and so is what the answers leave.
 pub record SameParts (same : Answer → Answer → Type 0) (n v : ℕ) (g : List ℕ) (i j m w : ℕ) (h : List ℕ) (k l : ℕ) : Type 0 where
@@ -60,6 +62,13 @@ module _ {percent : ℕ} {before one two : Lent} {n v i j m w k l : ℕ} {g h : 
   pub callable-backs : (b : ℕ) → SaidInParts (BackEnds percent b before one) n v g i j → SaidInParts (BackEnds percent b before two) m w h k l
       → SameParts (SameReturn percent before b one two) n v g i j m w h k l
   callable-backs b = parts-same _ (λ r s x y. returns-same x y) (λ r s x. x .same .answers)
+
+  pub callable-transfers : (up down kw : ℕ) → SaidInParts (TransferEnds percent up down kw before one) n v g i j
+      → SaidInParts (TransferEnds percent up down kw before two) m w h k l
+      → SameParts (SameMoved (movedCase percent before up down kw) before kw
+      (AgreeMoved (movedCase percent before up down kw) before one two) one two)
+      n v g i j m w h k l
+  callable-transfers up down kw = parts-same _ (λ r s x y. transfers-same x y) (λ r s x. x .answers)
 
 pub callable-moves : {bs : List ℕ} {f : Form} {out o o′ : List ℕ} {n v i j m w k l : ℕ} {g h : List ℕ} → SaidInParts (BookMoved bs f out o) n v g i j
     → SaidInParts (BookMoved bs f out o′) m w h k l

@@ -49,7 +49,7 @@ module _ (C : Case) (L M : ℕ → Type 0) {before one two : Lent} where
   ]
 
   -- Two true tables renewed from the same one, whatever the lists.
-  renewed-true : ((k : ℕ) → Dec (L k)) → ((k : ℕ) → Dec (M k)) → Renewed C L before one → Renewed C M before two
+  pub renewed-true : ((k : ℕ) → Dec (L k)) → ((k : ℕ) → Dec (M k)) → Renewed C L before one → Renewed C M before two
       → TrueTable C (one .flow) (one .table) → TrueTable C (two .flow) (two .table)
       → (k : ℕ) → k < C .branches → Each k → Alike (FreeBit C (Either L M) one two k) (recordAt (one .table) k) (recordAt (two .table) k)
   renewed-true l? m? x y t u k l w = go (l? k) (m? k)
@@ -63,7 +63,7 @@ module _ (C : Case) (L M : ℕ → Type 0) {before one two : Lent} where
       go (no n) (no m) = equal-alike C (Either L M) one two k (x .kept k l n ∙ sym (y .kept k l m))
 
   module _ (free agreed : ℕ → Type 0) {r s : Answer} where
-    renewed-same : r ≡ s → r ≡ accepted → one .book ≡ two .book → Renewed C L before one → Renewed C M before two
+    pub renewed-same : r ≡ s → r ≡ accepted → one .book ≡ two .book → Renewed C L before one → Renewed C M before two
         → ((j : ℕ) → j < C .branches → (free j → ⊥) → on (one .flow) j ≡ on (two .flow) j)
         → ((k : ℕ) → k < C .branches → agreed k → Alike (FreeBit C (Either L M) one two k) (recordAt (one .table) k) (recordAt (two .table) k))
         → SameResult C free (Either L M) agreed one two r s

@@ -33,6 +33,7 @@ use Rattle.switch.specs.Check.{branchCheck}
 use Rattle.screen.specs.Promise.{ScreenEnds, refuses, overloads, accepts}
 use Rattle.outage.specs.Promise.{TakeEnds}
 use Rattle.restore.specs.Promise.{BackEnds}
+use Rattle.transfer.specs.Promise.{leavesRange, transferCheck, TransferEnds}
 use Rattle.demands.specs.WhereWrong.{Tells}
 
 -- ---- A check that begins with the book's own, and has no place but that one's.
@@ -77,6 +78,14 @@ module _ (bs : List ℕ) where
         (if-nowhere (leb (branchesIn bs) b) 9 _ (if-nowhere (eqb (branch (bookOf bs) b .status) v) n Accepted refl))
         (lent-begins flows bytes)
 
+    transfer-begins : (flows bytes up down kw : ℕ) → Begins bs (transferCheck percent bs flows bytes up down kw)
+    unfolding transferCheck
+    transfer-begins flows bytes up down kw =
+        begins-then (lentCheck percent bs flows bytes) _
+        (if-nowhere (leb (busesIn bs) up || (leb (busesIn bs) down || eqb up down)) 19 _
+        (if-nowhere (leavesRange bs up down kw) 20 Accepted refl))
+        (lent-begins flows bytes)
+
 -- ---- What the calls that are lent a book answer.
 by-check : {bs : List ℕ} {check : Outcome} {r : Answer} → Begins bs check → SaidBy check r → Tells bs r
 by-check {bs} {check} {r} b s = record {
@@ -116,6 +125,10 @@ module _ {percent b : ℕ} {before after : Lent} {r : Answer} where
 
   pub back-tells : percentOut percent ≡ false → BackEnds percent b before after r → Tells (before .book) r
   back-tells i e = ends-tells (branch-begins _ _ i _ _ _ _ _) e
+
+pub transfer-tells : {percent up down kw : ℕ} {before after : Lent} {r : Answer} → percentOut percent ≡ false
+    → TransferEnds percent up down kw before after r → Tells (before .book) r
+transfer-tells i e = ends-tells (transfer-begins _ _ i _ _ _ _ _) e
 
 -- ---- What the writer answers to tables that are wrong.
 pub write-tells : {f : Form} {n m factor : ℕ} {inj : List ℤ} {bra out out′ : List ℕ} {r : Answer} → BookWritten f n m factor inj bra out out′ r

@@ -25,6 +25,11 @@ pub record FreeTaken (percent : ℕ) (before : Lent) (b j : ℕ) : Type 0 where
   pub named : (h : ℕ → ℤ) → Fits (out (caseIn percent (before .book)) b) (caseIn percent (before .book) .limit) h
       → Confined (caseIn percent (before .book)) (on (before .flow)) (recordAt (before .table) b) b h → names (recordAt (before .table) b) j ≡ true
 
+-- After a move of kw: none where kw is 0.
+pub record FreeMoved (C : Case) (kw j : ℕ) : Type 0 where
+  pub left : FreeFlow C j
+  pub some : kw ≡ 0 → ⊥
+
 -- ---- Bit j of branch k's reroute is free: one of the two results wrote the record anew, it carries, in one of them k has a flow, and j is
 -- another branch in service.
 pub record FreeBit (C : Case) (written : ℕ → Type 0) (one two : Lent) (k j : ℕ) : Type 0 where

@@ -178,7 +178,7 @@ module _ {table : List ℕ} {after : Lent} {r : Answer} where
       omega (arith, n, eleven .number-is)
 
 -- Three branches side by side carry 10 over the first; its record names the second alone.
-abbrev Abreast : Book
+abbrev pub Abreast : Book
 Abreast = record {
   form = Old;
   factor = 1000;
@@ -199,7 +199,7 @@ three-Abreast : 2 < caseOf 100 Abreast .branches
 unfolding caseOf
 three-Abreast = omega arith
 
-well-Abreast : wellTest Abreast ≡ true
+pub well-Abreast : wellTest Abreast ≡ true
 unfolding wellTest _&_ every over branchFault
 well-Abreast = refl
 

@@ -4,3 +4,4 @@ pub mod Marked
 pub mod Excluded
 pub mod Elsewhere
 pub mod NewScreen
+pub mod LoadMoved

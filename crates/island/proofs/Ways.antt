@@ -8,13 +8,13 @@ use native.Mathlib.Omega.{arith}
 use native.Mathlib.Decide.{ℕ-discrete}
 use borrow.Author.Tests.{ltb-true, ltb-false, eqb-true, eqb-false}
 use lib.Dec.{eqb, ltb}
-use lib.ListN.{length, getD, set, replicate}
+use lib.ListN.{length, getD, set}
 use lib.Seq.{getD-set-same, getD-set-other}
 use Rattle.rows.specs.Row.{nth, some}
 use Rattle.rows.specs.Bit.{has}
 use Rattle.rows.specs.Sum.{Group, differ, pick}
 use Rattle.rows.proofs.Row.{some-none, some-more, some-at}
-use Rattle.rows.proofs.Sum.{over-one, over-same, over-term, over-zero, pick-part}
+use Rattle.rows.proofs.Sum.{over-same, over-term, over-zero, pick-part}
 use Rattle.grid.specs.Reach.{OnIsland}
 use Rattle.grid.proofs.Net.{Net, crosses, gains, loads, ratings}
 use Rattle.grid.proofs.Excess.{Smallest}
@@ -22,46 +22,40 @@ use Rattle.grid.proofs.Islands.{island-within, together, together-sound, togeth
 use Rattle.search.specs.InsideLinks.{Linked}
 use Rattle.search.specs.declared.Wires.{Wires}
 use Rattle.search.specs.declared.Latent.{Latent}
-use Rattle.reroute.specs.InsideMoves.{network, Reroutable, Reroutes}
-use Rattle.reroute.specs.declared.Rest.{Rest}
+use Rattle.reroute.specs.InsideMoves.{network, Reroutes}
+use Rattle.reroute.specs.InsideVerdicts.{Deliverable}
+use Rattle.reroute.specs.Inside.{restBetween}
 use Rattle.reroute.specs.declared.Moved.{Moved}
-use Rattle.reroute.proofs.OnePlace.{one-at, set-zero}
-use Rattle.reroute.proofs.FlowVerdicts.{pick-apart}
+use Rattle.reroute.proofs.OnePlace.{set-zero}
+use Rattle.reroute.proofs.Delivering.{surplus-of, deficit-of}
 use Rattle.island.specs.Inside.{opened, Openable, Apart, Leading, Joining, leavesAt}
 
 -- ---- One unit left at u and wanted at v.
 abbrev both : List ℕ → Latent
 both ways = record { ahead = ways; back = ways }
 
-abbrev unit : ℕ → ℕ → Rest
-unit u v = record { surplus = set (replicate 128 0) u 1; deficit = set (replicate 128 0) v 1 }
-
 shut-way : (ways : List ℕ) (k : ℕ) → opened ways k ≡ false → nth ways k ≡ 0
 shut-way ways k e = omega (arith, ltb-false 0 (nth ways k) e)
 
 module _ (W : Wires) (ways : List ℕ) (u v : ℕ) (open-to : Openable W ways) (apart : Apart W u v) where
-  at-first : (i : ℕ) → nth (unit u v .surplus) i ≡ pick (eqb u i) 1
-  at-first i = one-at 128 u 1 i (omega (arith, open-to .linked .wired .few, apart .from-in))
-
-  at-last : (i : ℕ) → nth (unit u v .deficit) i ≡ pick (eqb v i) 1
-  at-last i = one-at 128 v 1 i (omega (arith, open-to .linked .wired .few, apart .to-in))
-
-  pub unit-ready : Reroutable W (both ways) (unit u v)
+  pub unit-ready : Deliverable W (both ways) u v 1
   unit-ready = record {
     linked = open-to .linked;
     sums = record { fit = λ k l. omega (arith, open-to .small k l) };
-    small = λ i l. omega (arith, at-first i, pick-part (eqb u i) 1);
-    apart = λ i l. rw (at-first i, at-last i) (pick-apart u v 1 i (apart .different));
+    from-in = apart .from-in;
+    to-in = apart .to-in;
+    different = apart .different;
+    small = omega arith;
   }
 
   abbrev N : Net
-  N = network W (nth ways) (nth (unit u v .surplus)) (nth (unit u v .deficit))
+  N = network W (nth ways) (nth (restBetween u v 1 .surplus)) (nth (restBetween u v 1 .deficit))
 
   gain-is : (S : Group) → gains N S ≡ pick (S u) 1
-  gain-is S = over-same (W .buses) S S _ _ (λ i l. ap (pick (S i)) (at-first i)) ∙ over-one (W .buses) S u 1 (apart .from-in)
+  gain-is = surplus-of unit-ready
 
   load-is : (S : Group) → loads N S ≡ pick (S v) 1
-  load-is S = over-same (W .buses) S S _ _ (λ i l. ap (pick (S i)) (at-last i)) ∙ over-one (W .buses) S v 1 (apart .to-in)
+  load-is = deficit-of unit-ready
 
   -- What may leave a group that no open branch leaves is 0, and the other way round.
   none-out : (S : Group) → ((k : ℕ) → k < W .branches → opened ways k ≡ true → S (nth (W .first) k) ≡ S (nth (W .second) k)) → ratings N S ≡ 0
@@ -119,10 +113,10 @@ module _ (W : Wires) (ways : List ℕ) (u v : ℕ) (open-to : Openable W ways) (
       let there = island-within (W .branches) (nth (W .first)) (nth (W .second)) (opened ways) R (whole-of R none) p (holds (R u) has-first) in
       omega (arith, s .reaches, gain-is R, load-is R, pick-part (R u) 1, ap (λ (t : Bool). pick t 1) there)
 
-  pub leading : {r : Moved} {t : Bool} → Reroutes W (both ways) (unit u v) r → t ≡ eqb (r .left) 0 → Leading W ways u v t
+  pub leading : {r : Moved} {t : Bool} → Reroutes W (both ways) (restBetween u v 1) r → t ≡ eqb (r .left) 0 → Leading W ways u v t
   leading {r} {t} m e =
       let s =
-      m .smallest (nth ways) (nth (unit u v .surplus)) (nth (unit u v .deficit)) (record { twice = λ k l. refl })
+      m .smallest (nth ways) (nth (restBetween u v 1 .surplus)) (nth (restBetween u v 1 .deficit)) (record { twice = λ k l. refl })
       (record { bus = λ i l. omega arith }) in
       record {
         path = λ h. all-moved (has (r .group)) (subst (Smallest N (has (r .group))) (eqb-true (r .left) 0 (sym e ∙ h)) s);

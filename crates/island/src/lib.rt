@@ -8,7 +8,6 @@ ghost use Rattle.rows.specs.Bit.{has};
 ghost use Rattle.rows.specs.Sum.{differ};
 ghost use Rattle.search.specs.InsideLinks.{Linked};
 ghost use Rattle.island.specs.Inside.{Openable, Apart, Leading, Joining, leavesAt};
-use reroute::Rest;
 use search::Latent;
 use search::Wires;
 
@@ -17,15 +16,11 @@ pub fn leads(wires: Wires, ways: [u32; 256], start: usize, goal: usize) -> bool
     requires { ⌜ Openable wires ways × Apart wires start goal ⌝ }
     ensures { λ r. ⌜ Leading wires ways start goal r ⌝ }
 {
-    let mut surplus = [0u32; 128];
-    let mut deficit = [0u32; 128];
-    surplus[start] = 1;
-    deficit[goal] = 1;
     let latent = Latent {
         ahead: ways,
         back: ways,
     };
-    let moved = reroute::reroute(wires, latent, Rest { surplus, deficit });
+    let moved = reroute::reroute(wires, latent, reroute::between(start, goal, 1));
     moved.left == 0
 }
 

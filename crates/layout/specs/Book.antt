@@ -42,6 +42,10 @@ restated x v = record { first = x .first; second = x .second; kva = x .kva; kva2
 abbrev pub withStatus : Book → ℕ → ℕ → Book
 withStatus b k v = record { form = b .form; factor = b .factor; injections = b .injections; branches = set (b .branches) k (restated (branch b k) v) }
 
+-- The book with the injection of bus k made z.
+abbrev pub withInjection : Book → ℕ → ℤ → Book
+withInjection b k z = record { form = b .form; factor = b .factor; injections = set (b .injections) k z; branches = b .branches }
+
 -- The book in form f. A branch has both figures in either form, so nothing else changes.
 abbrev pub inForm : Form → Book → Book
 inForm f b = record { form = f; factor = b .factor; injections = b .injections; branches = b .branches }

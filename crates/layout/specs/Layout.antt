@@ -93,6 +93,10 @@ headValues b = buses b ∷ count b ∷ b .factor ∷ formBit (b .form) ∷ 0 ∷
 abbrev pub busValues : ℤ → List ℕ
 busValues z = pick (isNeg z) 1 ∷ size z ∷ []
 
+-- The bytes with both fields of bus k made those of the injection z: sign 1 where it is negative, so never with size 0.
+abbrev pub putInjection : List ℕ → ℕ → ℤ → List ℕ
+putInjection bs k z = puts bs (place busWidths busStart k) busWidths (busValues z)
+
 -- The bytes with these fields of the header, of n buses and of m branches of widths ws.
 unfoldable pub packed : List ℕ → List ℕ → (ℕ → List ℕ) → ℕ → (ℕ → List ℕ) → ℕ → List ℕ
 packed ws head bus n branch m =

@@ -1,4 +1,4 @@
 pub mod Checking
 pub mod FlowLeft
-pub mod Shortlisting
+pub mod Touching
 pub mod OutageEnds

@@ -38,12 +38,14 @@ use Rattle.state.proofs.TrueRecords.{losable}
 use Rattle.state.proofs.Raising.{overload-normal, raisable, raised-state}
 use Rattle.switch.specs.Inside.{With}
 use Rattle.switch.proofs.Switched.{held-switched}
-use Rattle.outage.specs.Inside.{Marked, listedAt}
+use Rattle.shortlist.specs.Inside.{listedAt}
+use Rattle.shortlist.proofs.Shortlisting.{updated}
+use Rattle.outage.specs.Inside.{Marked}
 use Rattle.outage.specs.Promise.{Touched, itself, changed, takeCheck, takeNumbers, TakeCounted}
 use Rattle.outage.specs.declared.Taken.{Taken}
 use Rattle.outage.proofs.Checking.{Takeable, takeable, take-gives}
 use Rattle.outage.proofs.FlowLeft as leaving
-use Rattle.outage.proofs.Shortlisting.{updated, judges}
+use Rattle.outage.proofs.Touching.{judges}
 
 module _ (percent : ℕ) (bs : List ℕ) (flow : List ℤ) (table : List ℕ) (b : ℕ) where
   abbrev checks : Outcome

@@ -1,11 +1,9 @@
 // Taking a branch out of service: the flow is rerouted, and the records on the shortlist are written anew.
 ghost use mathlib.Core.Path.{_≡_};
-ghost use Prim.Native.Nat.{_*_, _<_, _≤_};
-ghost use lib.ListN.{length};
+ghost use Prim.Native.Nat.{_<_, _≤_};
 ghost use Rattle.answer.specs.Answer.{bare, overloaded};
 ghost use Rattle.state.specs.Call.{lent};
-ghost use Rattle.state.specs.Inside.{Listing};
-ghost use Rattle.outage.specs.Inside.{Marked, listedIf, listedAt};
+ghost use Rattle.outage.specs.Inside.{Marked};
 ghost use Rattle.outage.specs.Promise.{TakeEnds, TakeCounted};
 use answer::Answer;
 use answer::Outcome;
@@ -18,36 +16,6 @@ fn touch(branches: usize, before: [u32; 256], after: [u32; 256], branch: usize) 
 {
     let mut row = state::changed(branches, before, after, branch);
     bits::set_bit(&mut row, branch, 1);
-    row
-}
-
-// On the shortlist: out of service, touched, or by its record as it was lent.
-fn is_listed(rec: &[u8], serving: bool, touched: [u8; 32], k: usize) -> bool
-    requires { ⌜ length (now rec) ≡ 52 ⌝ }
-    ensures { λ r. ⌜ r ≡ listedIf serving touched (now (rec .entry)) k ⌝ }
-{
-    if !serving {
-        return true;
-    }
-    if bits::is_set(&touched, k) {
-        return true;
-    }
-    record::is_listed(rec, touched)
-}
-
-// The bits of the shortlist, from the table as it was lent.
-fn shortlist(table: &[u8], branches: usize, served: [bool; 256], touched: [u8; 32]) -> [u8; 32]
-    requires { ⌜ (branches ≤ 256) × (52 * branches ≤ length (now table)) ⌝ }
-    ensures { λ r. ⌜ Listing branches (listedAt served touched (now (table .entry))) r ⌝ }
-{
-    let mut row = [0u8; 32];
-    let mut k: usize = 0;
-    while k < branches {
-        if is_listed(record::stretch(table, k), served[k], touched, k) {
-            bits::set_bit(&mut row, k, 1);
-        }
-        k += 1;
-    }
     row
 }
 
@@ -113,7 +81,7 @@ pub fn take_out_counted(
     let served = switch::served_with(serving, branch, false);
     let limits = switch::kw_with(live, branch, 0);
     let briefs = switch::kw_with(brief, branch, 0);
-    let listed = shortlist(table, wires.branches, served, touched);
+    let listed = shortlist::shortlist(table, wires.branches, served, touched);
     state::fill_flow(flow, wires.branches, limits, after);
     let raised = state::raise(wires.branches, limits, briefs, left);
     let losses = state::rewrite(table, wires, served, briefs, raised, listed);

@@ -104,6 +104,8 @@ module _ {W : Wires} {latent₀ latent : Latent} {rest₀ rest : Rest} {r : List
           less-surplus = R .less-l;
           less-deficit = R .less-d;
           left-over = R .sum;
+          rises = R .rises;
+          falls = R .falls;
           within = still-within;
           balanced = still-balanced;
           smallest = λ limit gain load e B. rw (R .sum) (smallest

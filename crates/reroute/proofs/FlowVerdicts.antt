@@ -71,7 +71,7 @@ module _ (W : Wires) (K : Linked W) (latent : Latent) (rest : Rest) (r : Moved) 
   says zero z = carrying z
   says (suc n) z = record { some = omega arith; smallest = rw z at (R .smallest limit gain load e B) }
 
-  judged-says : (j : Judgement) → Judged r j → Says (network W limit gain load) (carried limit (j .latent .ahead)) (has (j .group)) (j .verdict)
+  pub judged-says : (j : Judgement) → Judged r j → Says (network W limit gain load) (carried limit (j .latent .ahead)) (has (j .group)) (j .verdict)
   judged-says j J = rw (J .verdict, J .latent, J .group) (says (r .left) refl)
 
 -- Nothing is short: no group is shown.

@@ -5,3 +5,4 @@ pub mod Casting
 pub mod Rounds
 pub mod Ends
 pub mod FlowVerdicts
+pub mod Delivering

@@ -1,4 +1,4 @@
--- What moving x along a way does: the sums of the latent capacities stay, and only the two ends of the way see a change.
+-- What moving x along a way does: the sums of the latent capacities stay, each changes by x at most, and only the two ends of the way see a change.
 use mathlib.Core.Path.{_≡_, refl, sym, ap, ap₂, subst, _∙_}
 use mathlib.Core.Bool.{cond}
 use mathlib.Core.List.{List, [], _∷_}
@@ -48,6 +48,9 @@ pub record Going (n : ℕ) (f s a₀ b₀ m : List ℕ) (goal x : ℕ) (a b : Li
   pub sums : Sums n (record { ahead = a₀; back = b₀ })
   pub same : (k : ℕ) → nth a k + nth b k ≡ nth a₀ k + nth b₀ k
   pub beyond : (k : ℕ) → n ≤ k → nth a k ≡ nth a₀ k
+  pub rises : (k : ℕ) → nth a k ≤ nth a₀ k + x
+  pub falls : (k : ℕ) → nth a₀ k ≤ nth a k + x
+  pub ahead-still : (i : ℕ) → i < length (walk .ks) → nth a (nth (walk .ks) i) ≡ nth a₀ (nth (walk .ks) i)
   pub drift : (i : ℕ) → ends n f a i + ends n s a₀ i + pick (eqb at i) x ≡ ends n f a₀ i + ends n s a i + pick (eqb goal i) x
 
 pub going-start : {W : Wires} {m : List ℕ} {latent : Latent} {goal x : ℕ} → Movable W m latent goal x → length m ≡ 128 → length (latent .ahead) ≡ 256
@@ -66,6 +69,9 @@ going-start {W} {m} {latent} {goal} {x} M long long-a long-b =
       sums = M .sums;
       same = λ k. refl;
       beyond = λ k l. refl;
+      rises = λ k. omega arith;
+      falls = λ k. omega arith;
+      ahead-still = λ i l. refl;
       drift = λ i. refl;
     }
 
@@ -101,12 +107,16 @@ module _ {n : ℕ} {f s a₀ b₀ m : List ℕ} {goal x : ℕ} {a b : List ℕ} 
     fresh : (i : ℕ) → i < length (H .rest) → nth (H .rest) i ≡ nth m at - 2 → ⊥
     fresh i l g = lone .once 0 (suc i) (omega arith) (omega arith) (sym g)
 
+    -- no branch of the way that is left was changed
+    still : (i : ℕ) → i < length ((nth m at - 2) ∷ H .rest) → nth a (nth ((nth m at - 2) ∷ H .rest) i) ≡ nth a₀ (nth ((nth m at - 2) ∷ H .rest) i)
+    still = subst (λ (l : List ℕ). (i : ℕ) → i < length l → nth a (nth l i) ≡ nth a₀ (nth l i)) (H .is) (G .ahead-still)
+
     -- the rest of the records, whichever way the branch goes: p and q are the new latent capacities there
     step : (u p q : ℕ) (W : Walk n f s m goal u (steps + 1)) → W .ks ≡ H .rest → x ≤ narrow f s a b u (H .rest)
-        → p + q ≡ nth a (nth m at - 2) + nth b (nth m at - 2)
+        → p + q ≡ nth a (nth m at - 2) + nth b (nth m at - 2) → p ≤ nth a (nth m at - 2) + x → nth a (nth m at - 2) ≤ p + x
         → ((i : ℕ) → ends n f (set a (nth m at - 2) p) i + ends n s a₀ i + pick (eqb u i) x ≡ ends n f a₀ i + ends n s (set a (nth m at - 2) p) i + pick (eqb goal i) x)
         → Going n f s a₀ b₀ m goal x (set a (nth m at - 2) p) (set b (nth m at - 2) q) u (steps + 1)
-    step u p q W e l sum d =
+    step u p q W e l sum up down d =
         record {
           few = G .few;
           long = G .long;
@@ -118,9 +128,19 @@ module _ {n : ℕ} {f s a₀ b₀ m : List ℕ} {goal x : ℕ} {a b : List ℕ} 
           sums = G .sums;
           same = sames;
           beyond = λ j h. getD-set-other a (nth m at - 2) j p 0 (omega (arith, in-n)) ∙ G .beyond j h;
+          rises = λ j. apart j .0;
+          falls = λ j. apart j .1;
+          ahead-still = rw e (λ i h. getD-set-other a (nth m at - 2) (nth (H .rest) i) p 0 (fresh i h) ∙ still (suc i) (omega arith));
           drift = d;
         }
       where
+        apart : (j : ℕ) → (nth (set a (nth m at - 2) p) j ≤ nth a₀ j + x) × (nth a₀ j ≤ nth (set a (nth m at - 2) p) j + x)
+        apart j = which (ℕ-discrete j (nth m at - 2))
+          where
+            which : Dec (j ≡ nth m at - 2) → (nth (set a (nth m at - 2) p) j ≤ nth a₀ j + x) × (nth a₀ j ≤ nth (set a (nth m at - 2) p) j + x)
+            which (yes g) = rw (g, getD-set-same a (nth m at - 2) p 0 in-a) (omega (arith, still 0 (omega arith)))
+            which (no d′) = rw (getD-set-other a (nth m at - 2) j p 0 d′) (G .rises j, G .falls j)
+
         sames : (j : ℕ) → nth (set a (nth m at - 2) p) j + nth (set b (nth m at - 2) q) j ≡ nth a₀ j + nth b₀ j
         sames j = which (ℕ-discrete j (nth m at - 2))
           where
@@ -150,6 +170,8 @@ module _ {n : ℕ} {f s a₀ b₀ m : List ℕ} {goal x : ℕ} {a b : List ℕ} 
           (walk-forth n f s m goal at steps (G .walk) z g)
           refl
           (both-fit .0)
+          (omega arith)
+          (omega arith)
           (omega arith)
           (λ i. omega (
             arith,
@@ -188,6 +210,8 @@ module _ {n : ℕ} {f s a₀ b₀ m : List ℕ} {goal x : ℕ} {a b : List ℕ} 
           refl
           (both-fit-back .0)
           (omega arith)
+          (omega arith)
+          (omega arith)
           (λ i. omega (
             arith,
             G .drift i,
@@ -206,5 +230,7 @@ going-end {goal = goal} {at = at} {steps = steps} G z =
     record {
       same = G .same;
       beyond = G .beyond;
+      rises = G .rises;
+      falls = G .falls;
       drift = λ from ks p i. rw (walk-end _ _ _ _ goal at steps (G .walk) z from ks p) (G .drift i);
     }

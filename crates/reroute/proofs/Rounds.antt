@@ -31,6 +31,8 @@ pub record Round (W : Wires) (latent₀ : Latent) (rest₀ : Rest) (latent : Lat
   pub long-r : length r ≡ 128
   pub same : (k : ℕ) → bothWays latent k ≡ bothWays latent₀ k
   pub beyond : (k : ℕ) → W .branches ≤ k → nth (latent .ahead) k ≡ nth (latent₀ .ahead) k
+  pub rises : (k : ℕ) → nth (latent .ahead) k + left ≤ nth (latent₀ .ahead) k + total (W .buses) (rest₀ .surplus)
+  pub falls : (k : ℕ) → nth (latent₀ .ahead) k + left ≤ nth (latent .ahead) k + total (W .buses) (rest₀ .surplus)
   pub less-l : (i : ℕ) → nth (rest .surplus) i ≤ nth (rest₀ .surplus) i
   pub less-d : (i : ℕ) → nth (rest .deficit) i ≤ nth (rest₀ .deficit) i
   pub drift :
@@ -50,6 +52,8 @@ round-none P p q o K e =
       long-r = o;
       same = λ k. refl;
       beyond = λ k h. refl;
+      rises = λ k. omega arith;
+      falls = λ k. omega arith;
       less-l = λ i. omega arith;
       less-d = λ i. omega arith;
       drift = λ i. refl;
@@ -164,6 +168,8 @@ module _ {W : Wires} {w : Work} {r : List ℕ} {fd : Found} (S : Searched W w r 
             long-r = length-set (set r start p) goal q ∙ length-set r start p ∙ R .long-r;
             same = λ k. moved .same k ∙ R .same k;
             beyond = λ k h. moved .beyond k h ∙ R .beyond k h;
+            rises = λ k. omega (arith, moved .rises k, R .rises k, in-left);
+            falls = λ k. omega (arith, moved .falls k, R .falls k, in-left);
             less-l = λ i. omega (arith, less-at i, R .less-l i);
             less-d = λ i. omega (arith, lack-at i, R .less-d i);
             drift = λ i. omega (arith, R .drift i, rw (routed .starts) at (moved .drift (routed .trail .from) (routed .trail .ks) (routed .trail .path) i), less-at i, lack-at i);

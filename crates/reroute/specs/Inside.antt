@@ -3,7 +3,7 @@ use mathlib.Core.Path.{_≡_}
 use mathlib.Core.List.{List}
 use Prim.Native.Nat.{ℕ, zero, suc, _+_, _<_, _≤_, min}
 use lib.Dec.{eqb}
-use lib.ListN.{set}
+use lib.ListN.{set, replicate}
 use Rattle.rows.specs.Row.{nth}
 use Rattle.rows.specs.Sum.{pick, over}
 use Rattle.search.specs.InsideSearch.{Path, Trail}
@@ -41,6 +41,9 @@ ends n f a i = over n (λ k. eqb (nth f k) i) (nth a)
 pub record Moves (W : Wires) (m : List ℕ) (latent : Latent) (v x : ℕ) (r : Latent) : Type 0 where
   pub same : (k : ℕ) → bothWays r k ≡ bothWays latent k
   pub beyond : (k : ℕ) → W .branches ≤ k → nth (r .ahead) k ≡ nth (latent .ahead) k
+  -- the way takes a branch once at most
+  pub rises : (k : ℕ) → nth (r .ahead) k ≤ nth (latent .ahead) k + x
+  pub falls : (k : ℕ) → nth (latent .ahead) k ≤ nth (r .ahead) k + x
   pub drift :
       (from : ℕ) (ks : List ℕ) → Path (W .branches) (W .first) (W .second) m from v ks
       → (i : ℕ) → ends (W .branches) (W .first) (r .ahead) i + ends (W .branches) (W .second) (latent .ahead) i + pick (eqb from i) x
@@ -72,3 +75,7 @@ pub record Opened (W : Wires) (limit : List ℕ) (latent : Latent) (k : ℕ) (re
       ≡ nth (rest .surplus) i + pick (eqb (nth (W .first) k) i) (nth (latent .ahead) k) + pick (eqb (nth (W .second) k) i) (nth limit k)
   pub small : (i : ℕ) → nth (rest .surplus) i ≤ 1000000
   pub apart : (i : ℕ) → min (nth (rest .surplus) i) (nth (rest .deficit) i) ≡ 0
+
+-- x left at bus u, and wanted at bus v.
+abbrev pub restBetween : ℕ → ℕ → ℕ → Rest
+restBetween u v x = record { surplus = set (replicate 128 0) u x; deficit = set (replicate 128 0) v x }

@@ -72,6 +72,9 @@ pub record Reroutes (W : Wires) (latent : Latent) (rest : Rest) (r : Moved) : Ty
   pub less-surplus : (i : ℕ) → nth (r .rest .surplus) i ≤ nth (rest .surplus) i
   pub less-deficit : (i : ℕ) → nth (r .rest .deficit) i ≤ nth (rest .deficit) i
   pub left-over : r .left ≡ total (W .buses) (r .rest .surplus)
+  -- no branch changes by more than was moved: the surplus that there was, less what is left
+  pub rises : (k : ℕ) → nth (r .latent .ahead) k + r .left ≤ nth (latent .ahead) k + total (W .buses) (rest .surplus)
+  pub falls : (k : ℕ) → nth (latent .ahead) k + r .left ≤ nth (r .latent .ahead) k + total (W .buses) (rest .surplus)
   -- Whatever limits, gains and loads the rows belong to: the flow keeps to the limits, it balances if it did, and the group is the
   -- smallest with the largest excess, which is the surplus left.
   pub within : (limit gain load : ℕ → ℕ) → TwiceLimit (W .branches) latent limit → Within (network W limit gain load) (carried limit (r .latent .ahead))

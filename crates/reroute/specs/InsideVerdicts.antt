@@ -1,11 +1,12 @@
--- What the base flow and the loss of one branch say of a network.
+-- What the base flow, the loss of one branch and x brought from one bus to another say of a network.
 use mathlib.Core.Path.{_≡_}
 use mathlib.Core.Bool.{false}
 use mathlib.Core.List.{List}
 use Prim.Native.Nat.{ℕ, _+_, _<_, _≤_, min}
 use lib.ListN.{replicate}
 use Rattle.rows.specs.Row.{nth}
-use Rattle.rows.specs.Sum.{Group, all}
+use lib.Dec.{eqb}
+use Rattle.rows.specs.Sum.{Group, all, pick}
 use Rattle.rows.specs.Bit.{has}
 use Rattle.grid.proofs.Net.{Net, gains, loads, without}
 use Rattle.grid.proofs.Flow.{Flow, Within, Balanced}
@@ -13,7 +14,7 @@ use Rattle.grid.proofs.Excess.{AtMost, Smallest}
 use Rattle.search.specs.InsideLinks.{Linked}
 use Rattle.search.specs.declared.Wires.{Wires}
 use Rattle.search.specs.declared.Latent.{Latent}
-use Rattle.reroute.specs.InsideMoves.{network, carried, bothWays, NoneAt, TwiceLimit}
+use Rattle.reroute.specs.InsideMoves.{network, carried, bothWays, NoneAt, TwiceLimit, Sums}
 use Rattle.reroute.specs.declared.Verdict.{Verdict}
 use Rattle.reroute.specs.declared.Verdict.the-variants.{Carries, Short}
 use Rattle.reroute.specs.declared.Judgement.{Judgement}
@@ -69,5 +70,27 @@ pub record Lost (W : Wires) (limit : List ℕ) (latent : Latent) (k : ℕ) (r : 
       (has (r .group))
       (r .verdict)
   pub empty : r .verdict ≡ Carries → r .group ≡ replicate 16 0
+  pub beyond : (v : ℕ) → W .buses ≤ v → v < 128 → has (r .group) v ≡ false
+  pub bytes : (j : ℕ) → j < 16 → nth (r .group) j < 256
+
+-- x, of at most 2,000,000, brought from bus u to another bus v.
+pub record Deliverable (W : Wires) (latent : Latent) (u v x : ℕ) : Type 0 where
+  pub linked : Linked W
+  pub sums : Sums (W .branches) latent
+  pub from-in : u < W .buses
+  pub to-in : v < W .buses
+  pub different : u ≡ v → ⊥
+  pub small : x ≤ 2000000
+
+-- From a flow that balances, over the network in which u brings x more and v less. No branch changes by more than x.
+pub record Delivered (W : Wires) (latent : Latent) (u v x : ℕ) (r : Judgement) : Type 0 where
+  pub kept : (k : ℕ) → bothWays (r .latent) k ≡ bothWays latent k
+  pub rises : (k : ℕ) → nth (r .latent .ahead) k ≤ nth (latent .ahead) k + x
+  pub falls : (k : ℕ) → nth (latent .ahead) k ≤ nth (r .latent .ahead) k + x
+  pub says :
+      (limit gain load gain′ load′ : ℕ → ℕ) → TwiceLimit (W .branches) latent limit
+      → Balanced (network W limit gain load) (carried limit (latent .ahead)) (λ i. 0) (λ i. 0)
+      → ((i : ℕ) → gain′ i + load i + pick (eqb v i) x ≡ gain i + load′ i + pick (eqb u i) x)
+      → Says (network W limit gain′ load′) (carried limit (r .latent .ahead)) (has (r .group)) (r .verdict)
   pub beyond : (v : ℕ) → W .buses ≤ v → v < 128 → has (r .group) v ≡ false
   pub bytes : (j : ℕ) → j < 16 → nth (r .group) j < 256

@@ -1,9 +1,9 @@
 // Surplus that is left at some buses is moved to deficits at others, route by route, over the latent capacities of a network.
-// From that follow two verdicts: on a network as it is, and after the loss of one branch.
+// From that follow three verdicts: on a network as it is, after the loss of one branch, and after one bus brings more and another less.
 // What is public here serves the crates above alone, which meet what it requires.
 ghost use Rattle.reroute.specs.InsideMoves.{total, Reroutable, Reroutes};
-ghost use Rattle.reroute.specs.InsideVerdicts.{Basic, Based, Losable, Lost};
-ghost use Rattle.reroute.specs.Inside.{roleOf, Roles, Movable, Moves, Summable, Judged, Opened, cutAt};
+ghost use Rattle.reroute.specs.InsideVerdicts.{Basic, Based, Losable, Lost, Deliverable, Delivered};
+ghost use Rattle.reroute.specs.Inside.{roleOf, Roles, Movable, Moves, Summable, Judged, Opened, cutAt, restBetween};
 ghost use Prim.Native.Nat.{_<_, _≤_};
 ghost use mathlib.Core.Path.{_≡_};
 use search::Latent;
@@ -222,4 +222,24 @@ pub fn loss(wires: Wires, limit: [u32; 256], latent: Latent, lost: usize) -> Jud
 {
     let rest = rest_of(wires, limit, latent, lost);
     judge(reroute(wires, without(latent, lost), rest))
+}
+
+// x left at one bus, and wanted at another.
+pub fn between(start: usize, goal: usize, x: u32) -> Rest
+    requires { ⌜ (start < 128) × (goal < 128) ⌝ }
+    ensures { λ r. ⌜ r ≡ restBetween start goal x ⌝ }
+{
+    let mut surplus = [0u32; 128];
+    let mut deficit = [0u32; 128];
+    surplus[start] = x;
+    deficit[goal] = x;
+    Rest { surplus, deficit }
+}
+
+// The same as for the base flow, after one bus of a flow brings x more and another x less.
+pub fn deliver(wires: Wires, latent: Latent, start: usize, goal: usize, x: u32) -> Judgement
+    requires { ⌜ Deliverable wires latent start goal x ⌝ }
+    ensures { λ r. ⌜ Delivered wires latent start goal x r ⌝ }
+{
+    judge(reroute(wires, latent, between(start, goal, x)))
 }

@@ -1,6 +1,6 @@
--- The rows of a case are its network: what the base flow asks for and says of it, an overload or a flow that fits.
+-- The rows of a case are its network: what the base flow asks for; and what the kernel's word on it says, an overload or a flow that fits.
 use mathlib.Core.Path.{_≡_, refl, sym, ap, _∙_, subst}
-use mathlib.Core.Bool.{Bool}
+use mathlib.Core.Bool.{Bool, false}
 use mathlib.Core.List.{List}
 use Prim.Native.Nat.{ℕ, _+_, _≤_, _<_}
 use native.Mathlib.Omega.{arith}
@@ -15,7 +15,7 @@ use Rattle.quantity.specs.Signed.{posPart, negPart}
 use Rattle.quantity.proofs.Parts.{size-parts, one-side, minus-parts}
 use Rattle.grid.proofs.Net.{Net}
 use Rattle.search.specs.declared.Wires.{Wires}
-use Rattle.reroute.specs.InsideMoves.{network, carried}
+use Rattle.reroute.specs.InsideMoves.{network, carried, bothWays}
 use Rattle.reroute.specs.InsideVerdicts.{Carrying, Shortage, Says, Basic, Based}
 use Rattle.reroute.specs.declared.Judgement.{Judgement}
 use Rattle.reroute.specs.declared.Verdict.{Verdict}
@@ -28,6 +28,13 @@ use Rattle.verdict.proofs.Alike.{SameFlow, within-alike, balanced-alike, gains-
 use Rattle.state.specs.Call.{OverloadSaid}
 use Rattle.state.specs.Inside.{Held, State, Fillable}
 use Rattle.state.proofs.TrueRecords.{group-bytes, clipped, held-limit, held-small}
+
+-- The kernel's word on a case: a flow that it carries, or by how much which group is short.
+pub record Answered (C : Case) (W : Wires) (live : List ℕ) (r : Judgement) : Type 0 where
+  pub kept : (k : ℕ) → k < W .branches → bothWays (r .latent) k ≡ nth live k + nth live k
+  pub says : Says (base C) (carried (nth live) (r .latent .ahead)) (has (r .group)) (r .verdict)
+  pub beyond : (v : ℕ) → W .buses ≤ v → v < 128 → has (r .group) v ≡ false
+  pub bytes : (j : ℕ) → j < 16 → nth (r .group) j < 256
 
 module _ (C : Case) (level : Level C) (W : Wires) (served : List Bool) (live gain load : List ℕ) (h : Held C W served live)
     (gain-is : nth gain ≡ (λ i. posPart (C .injection i))) (load-is : nth load ≡ (λ i. negPart (C .injection i))) where
@@ -49,51 +56,63 @@ module _ (C : Case) (level : Level C) (W : Wires) (served : List Bool) (live gai
     apart = λ i u. omega (arith, gain-at i, load-at i, one-side (C .injection i));
   }
 
-  module _ (r : Judgement) (d : Based W live gain load r) where
-    -- Short: the book is refused with its base excess and the smallest group reaching it.
-    pub overload : (e : ℕ) → r .verdict ≡ Short e → length (r .group) ≡ 16 → OverloadSaid C (overloaded e (r .group))
-    overload e v l =
-        let c : Shortage (network W (nth live) (nth gain) (nth load)) (has (r .group)) e =
-        subst (λ (w : Verdict). Says (network W (nth live) (nth gain) (nth load)) (carried (nth live) (r .latent .ahead)) (has (r .group)) w) v (d .says) in
-        record {
-          shortage = e;
-          group = r .group;
-          answer = said-overloaded e (r .group);
-          long = l;
-          bytes = group-bytes (r .group) l (d .bytes);
-          overload = overload-plain C e (has (r .group)) .1 (record {
-            above = c .some;
-            smallest = rw base-net at (c .smallest);
-            beyond = clipped (C .buses) (r .group) l (λ i u. d .beyond i (rw (h .buses-are) u));
-          });
-        }
+  pub based-answer : (r : Judgement) → Based W live gain load r → Answered C W live r
+  based-answer r d = record {
+    kept = λ k u. d .kept k;
+    says = subst (λ (N : Net). Says N (carried (nth live) (r .latent .ahead)) (has (r .group)) (r .verdict)) base-net (d .says);
+    beyond = d .beyond;
+    bytes = d .bytes;
+  }
 
-    pub fillable : (room : ℕ) → W .branches ≤ room → Fillable (W .branches) live (r .latent .ahead) room
-    fillable room u = record {
-      few = rw (h .branches-are) (h .posed .few-branches);
-      fits-in = u;
-      small = λ k v. (omega (arith, held-small C W served live h k v), omega (arith, held-small C W served live h k v, d .kept k));
-    }
+module _ (C : Case) (W : Wires) (served : List Bool) (live : List ℕ) (h : Held C W served live) (r : Judgement)
+    (d : Answered C W live r) where
+  word : (v : Verdict) → r .verdict ≡ v → Says (base C) (carried (nth live) (r .latent .ahead)) (has (r .group)) v
+  word v e = subst (λ (w : Verdict). Says (base C) (carried (nth live) (r .latent .ahead)) (has (r .group)) w) e (d .says)
 
-    -- Carries: the flow that the latent capacities leave fits, and they are its latent capacities.
-    pub state-left : (flow₀ flow : List ℤ) → r .verdict ≡ Carries → flow ≡ headed (W .branches) (λ k. pos (nth live k) -ℤ pos (nth (r .latent .ahead) k)) flow₀ → State C (on flow) W served live (r .latent)
-    state-left flow₀ flow v w =
-        let e : (k : ℕ) → k < W .branches → on flow k ≡ pos (nth live k) -ℤ pos (nth (r .latent .ahead) k) =
-        λ k u. ap (λ (l : List ℤ). on l k) w ∙ headed-at (W .branches) (λ j. pos (nth live j) -ℤ pos (nth (r .latent .ahead) j)) flow₀ k (pos 0) u in
-        let c₀ : Carrying (network W (nth live) (nth gain) (nth load)) (carried (nth live) (r .latent .ahead)) =
-        subst (λ (w : Verdict). Says (network W (nth live) (nth gain) (nth load)) (carried (nth live) (r .latent .ahead)) (has (r .group)) w) v (d .says) in
-        let c : Carrying (base C) (carried (nth live) (r .latent .ahead)) = subst (λ (N : Net). Carrying N (carried (nth live) (r .latent .ahead))) base-net c₀ in
-        let at : (k : ℕ) → k < C .branches → on flow k ≡ pos (nth live k) -ℤ pos (nth (r .latent .ahead) k) = λ k u. e k (rw (h .branches-are) u) in
-        let parts : (k : ℕ) → k < C .branches → nth (r .latent .ahead) k + posPart (on flow k) ≡ nth live k + negPart (on flow k) =
-        λ k u. omega (arith, minus-parts (pos (nth live k)) (pos (nth (r .latent .ahead) k)), ap posPart (at k u), ap negPart (at k u)) in
-        let same : SameFlow (base C) (carried (nth live) (r .latent .ahead)) (flowOf (on flow)) = λ k u. omega (arith, parts k u) in
-        record {
-          held = h;
-          latents = record {
-            ahead-is = λ k u. omega (arith, parts k u, held-limit C W served live h k);
-            back-is = λ k u. omega (arith, parts k u, held-limit C W served live h k, d .kept k);
-          };
-          fits = settled-fits C (C .limit) (on flow)
-              (within-alike (base C) (carried (nth live) (r .latent .ahead)) (flowOf (on flow)) same (c .within))
-              (balanced-alike (base C) (carried (nth live) (r .latent .ahead)) (flowOf (on flow)) nothing nothing same (c .balanced (gains-loads C (C .limit) (h .posed))));
-        }
+  -- Short: the book is refused with its base excess and the smallest group reaching it.
+  pub overload : (e : ℕ) → r .verdict ≡ Short e → length (r .group) ≡ 16 → OverloadSaid C (overloaded e (r .group))
+  overload e v l =
+      let c : Shortage (base C) (has (r .group)) e = word (Short e) v in
+      record {
+        shortage = e;
+        group = r .group;
+        answer = said-overloaded e (r .group);
+        long = l;
+        bytes = group-bytes (r .group) l (d .bytes);
+        overload = overload-plain C e (has (r .group)) .1 (record {
+          above = c .some;
+          smallest = c .smallest;
+          beyond = clipped (C .buses) (r .group) l (λ i u. d .beyond i (rw (h .buses-are) u));
+        });
+      }
+
+  pub fillable : (room : ℕ) → W .branches ≤ room → Fillable (W .branches) live (r .latent .ahead) room
+  fillable room u = record {
+    few = rw (h .branches-are) (h .posed .few-branches);
+    fits-in = u;
+    small = λ k v. (omega (arith, held-small C W served live h k v), omega (arith, held-small C W served live h k v, d .kept k v));
+  }
+
+  -- Carries: the flow that the latent capacities leave fits, and they are its latent capacities.
+  pub state-left : (flow₀ flow : List ℤ) → r .verdict ≡ Carries
+      → flow ≡ headed (W .branches) (λ k. pos (nth live k) -ℤ pos (nth (r .latent .ahead) k)) flow₀
+      → State C (on flow) W served live (r .latent)
+  state-left flow₀ flow v w =
+      let e : (k : ℕ) → k < W .branches → on flow k ≡ pos (nth live k) -ℤ pos (nth (r .latent .ahead) k) =
+      λ k u. ap (λ (l : List ℤ). on l k) w ∙ headed-at (W .branches) (λ j. pos (nth live j) -ℤ pos (nth (r .latent .ahead) j)) flow₀ k (pos 0) u in
+      let c : Carrying (base C) (carried (nth live) (r .latent .ahead)) = word Carries v in
+      let at : (k : ℕ) → k < C .branches → on flow k ≡ pos (nth live k) -ℤ pos (nth (r .latent .ahead) k) = λ k u. e k (rw (h .branches-are) u) in
+      let parts : (k : ℕ) → k < C .branches → nth (r .latent .ahead) k + posPart (on flow k) ≡ nth live k + negPart (on flow k) =
+      λ k u. omega (arith, minus-parts (pos (nth live k)) (pos (nth (r .latent .ahead) k)), ap posPart (at k u), ap negPart (at k u)) in
+      let same : SameFlow (base C) (carried (nth live) (r .latent .ahead)) (flowOf (on flow)) = λ k u. omega (arith, parts k u) in
+      record {
+        held = h;
+        latents = record {
+          ahead-is = λ k u. omega (arith, parts k u, held-limit C W served live h k);
+          back-is = λ k u. omega (arith, parts k u, held-limit C W served live h k, d .kept k (rw (h .branches-are) u));
+        };
+        fits = settled-fits C (C .limit) (on flow)
+            (within-alike (base C) (carried (nth live) (r .latent .ahead)) (flowOf (on flow)) same (c .within))
+            (balanced-alike (base C) (carried (nth live) (r .latent .ahead)) (flowOf (on flow)) nothing nothing same
+            (c .balanced (gains-loads C (C .limit) (h .posed))));
+      }

@@ -23,7 +23,7 @@ use Rattle.layout.specs.Form.{branchWidths}
 use Rattle.layout.specs.Layout.{bitsFor, busesIn, branchesIn, formIn, statusBit, branchAt, bookOf}
 use Rattle.layout.specs.Check.{checkOf}
 use Rattle.layout.proofs.Forms.{status-read}
-use Rattle.layout.proofs.WellFormed.{count-of, branch-of}
+use Rattle.layout.proofs.WellFormed.{buses-of, count-of, branch-of}
 use Rattle.layout.proofs.StatusChanged.{status-accepted, status-book}
 use Rattle.verdict.specs.Case.{Case, withStatus}
 use Rattle.state.specs.Case.{caseOf, caseIn}
@@ -71,6 +71,10 @@ module _ (B : Book) (k v : ℕ) (there : k < count B) where
 pub branches-of : (percent : ℕ) (bs : List ℕ) → caseIn percent bs .branches ≡ branchesIn bs
 unfolding caseOf
 branches-of percent bs = count-of bs
+
+pub case-buses : (percent : ℕ) (bs : List ℕ) → caseIn percent bs .buses ≡ busesIn bs
+unfolding caseOf
+case-buses percent bs = buses-of bs
 
 -- Where both figures are equal on every branch, a loss is judged by the normal limits: past the last branch both are 0.
 pub level-of : (percent : ℕ) (b : Book) → ((k : ℕ) → k < count b → branch b k .kva2 ≡ branch b k .kva) → Level (caseOf percent b)

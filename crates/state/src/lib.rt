@@ -187,7 +187,7 @@ pub fn changed(branches: usize, before: [u32; 256], after: [u32; 256], but: usiz
 }
 
 // How far two numbers are apart.
-fn apart(x: u32, y: u32) -> u32
+pub fn apart(x: u32, y: u32) -> u32
     ensures { λ r. ⌜ r ≡ (x - y) + (y - x) ⌝ }
 {
     if x < y { y - x } else { x - y }

@@ -29,3 +29,8 @@ module _ (promise : Lent → Lent → Answer → Type 0) (r : Answer) {book book
 pub called-as : (promise : ℕ → Lent → Lent → Answer → Type 0) {k k′ n i j : ℕ} {l l′ : Lent} → k ≡ k′
     → Called (promise k) n i j l l′ → Called (promise k′) n i j l l′
 called-as promise e c = rw e at c
+
+-- And of a call that was asked three numbers.
+pub called-as-three : (promise : ℕ → ℕ → ℕ → Lent → Lent → Answer → Type 0) {u v w u′ v′ w′ n i j : ℕ} {l l′ : Lent} → u ≡ u′ → v ≡ v′ → w ≡ w′
+    → Called (promise u v w) n i j l l′ → Called (promise u′ v′ w′) n i j l l′
+called-as-three promise e g h c = rw (e, g, h) at c

@@ -1,3 +1,4 @@
 pub mod CalledOnParts
 pub mod MovedToFront
 pub mod NoPlace
+pub mod TransferCommand

@@ -1,13 +1,15 @@
-// Commands that make a call and write its answer: `S`, `O` and `K` here, the others in `tables`. Each answers how many bytes of the stream it took, and 0
-// where it is bad.
+// Commands that make a call and write its answer: `S`, `O`, `K` and `V` here, the others in `tables`. Each answers how many bytes of the stream it
+// took, and 0 where it is bad.
 ghost use mathlib.Core.Path.{_≡_};
 ghost use Prim.Native.Nat.{_<_, _≤_};
 ghost use lib.ListN.{length};
 ghost use Rattle.state.specs.Call.{lent};
-ghost use Rattle.trial.specs.InsideCalls.{Sized, ScreenRun, OutRun, BackRun, CallRun};
+ghost use Rattle.trial.specs.InsideCalls.{Sized, ScreenRun, OutRun, BackRun, TransferRun, CallRun};
 use line::answer_line;
 use line::hex_line;
 use line::signed_line;
+use rows::two;
+use spaces::four;
 use spaces::number_at;
 use tables::run_meters;
 use tables::run_read;
@@ -106,6 +108,45 @@ fn run_back(
     k.end
 }
 
+// `V`. Any buses and any kW may be named, so that the stream has only to hold their bytes.
+fn run_transfer(
+    rest: &[u8],
+    percent: u32,
+    book: &mut [u8],
+    bytes: usize,
+    flow: &mut [i32],
+    table: &mut [u8],
+) -> usize
+    requires { ⌜ (0 < length (now rest)) × (bytes ≤ length (now book)) ⌝ }
+    ensures { λ r. ⌜ TransferRun percent (now (rest .entry)) bytes (lent (now (book .entry)) (now (flow .entry)) (now (table .entry))) (lent (now (book .exit)) (now (flow .exit)) (now (table .exit))) r ⌝ }
+    ensures { λ r. ⌜ r ≤ length (now (rest .entry)) ⌝ }
+{
+    let a = number_at(rest, 1, flow.len());
+    let b = number_at(rest, a.end, table.len());
+    if b.end == 0 {
+        return 0;
+    }
+    if rest.len() < 13 {
+        return 0;
+    }
+    let up = two(rest, 5);
+    let down = two(rest, 7);
+    let kw = four(rest, 9);
+    let flows = a.value;
+    let records = b.value;
+    let answer = transfer::move_load(
+        percent,
+        &mut book[0..bytes],
+        &mut flow[0..flows],
+        &mut table[0..records],
+        up,
+        down,
+        kw,
+    );
+    answer_line(b"move", answer);
+    13
+}
+
 fn record_line(table: &[u8], k: usize)
     requires { ⌜ (length (now table) ≡ 13312) × (k < 256) ⌝ }
 {
@@ -127,7 +168,7 @@ fn dump(book: &[u8], bytes: usize, flow: &[i32], table: &[u8])
     }
 }
 
-// `S`, `O`, `K`, `R`, `M` and `D`.
+// `S`, `O`, `K`, `V`, `R`, `M` and `D`.
 pub fn run_call(
     rest: &[u8],
     letter: u8,
@@ -151,6 +192,9 @@ pub fn run_call(
     }
     if letter == b'K' {
         return run_back(rest, percent, book, bytes, flow, table);
+    }
+    if letter == b'V' {
+        return run_transfer(rest, percent, book, bytes, flow, table);
     }
     if letter == b'R' {
         return run_read(rest, book, bytes, injections, branches);

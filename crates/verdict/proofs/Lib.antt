@@ -11,3 +11,4 @@ pub mod Alike
 pub mod Rest
 pub mod Islanding
 pub mod Shown
+pub mod Shift

@@ -4,7 +4,7 @@ use mathlib.Core.Bool.{Bool, true, false, cond}
 use mathlib.Core.List.{List}
 use Prim.Native.Nat.{ℕ, _≤_, _<_}
 use lib.Dec.{eqb}
-use lib.IntN.{ℤ, pos, natAbs, _-ℤ_}
+use lib.IntN.{ℤ, pos, natAbs, _+ℤ_, _-ℤ_}
 use lib.ListN.{getD}
 use Rattle.rows.specs.Sum.{all, sum}
 
@@ -50,6 +50,19 @@ out C b = withStatus C b false
 
 abbrev pub back : Case → ℕ → Case
 back C b = withStatus C b true
+
+-- The case with kw moved, 0 or more: document 02, W4, 'one bus's injection rises by it, another's falls by it'.
+abbrev pub shifted : Case → ℕ → ℕ → ℕ → Case
+shifted C up down kw = record {
+  buses = C .buses;
+  branches = C .branches;
+  first = C .first;
+  second = C .second;
+  served = C .served;
+  injection = λ i. cond (eqb i up) (C .injection i +ℤ pos kw) (cond (eqb i down) (C .injection i -ℤ pos kw) (C .injection i));
+  limit = C .limit;
+  loss-limit = C .loss-limit;
+}
 
 -- A flow gives each branch a signed kW, positive from its first bus to its second. A lent row of numbers gives one.
 abbrev pub on : List ℤ → ℕ → ℤ

@@ -29,6 +29,10 @@ pub record Renewed (C : Case) (listed : ℕ → Type 0) (before after : Lent) : 
   pub kept : (k : ℕ) → k < C .branches → (listed k → ⊥) → recordAt (after .table) k ≡ recordAt (before .table) k
   pub beyond : Beyond C before after
 
+-- Touched by a call that changes no status: a changed flow.
+abbrev pub FlowChanged : (f g : ℕ → ℤ) → ℕ → Type 0
+FlowChanged f g j = f j ≡ g j → ⊥
+
 -- The shortlist: every branch that is out of service, whose record's byte 0 isn't 1, that is touched, or whose reroute names a touched branch.
 pub data Shortlisted (C : Case) (table : List ℕ) (touched : ℕ → Type 0) (k : ℕ) : Type 0 where
   not-served : C .served k ≡ false → Shortlisted C table touched k

@@ -16,6 +16,11 @@ pub fn set(bytes: &mut [u8], at: usize, value: bool) {
     bytes[at / 8] = if value { bytes[at / 8] | one } else { bytes[at / 8] & !one };
 }
 
+/// Gives the field of `width` bits that starts at place `at` a value.
+pub fn set_field(bytes: &mut [u8], at: usize, width: usize, value: u32) {
+    (0..width).for_each(|place| set(bytes, at + place, value >> (width - 1 - place) & 1 == 1));
+}
+
 /// The same bytes with the bit at place `at` given a value.
 pub fn with(bytes: &[u8], at: usize, value: bool) -> Vec<u8> {
     let mut changed = bytes.to_vec();

@@ -122,6 +122,16 @@ pub fn pack_items(items: &Items, factor: u32) -> Vec<u8> {
     packer.bytes()
 }
 
+/// The bytes of a book with one bus's injection given a value, and no other bit changed. 0 kW have the sign 0, so that minus zero
+/// is never written.
+pub fn with_injection(bytes: &[u8], bus: usize, kw: i64) -> Vec<u8> {
+    let (sign, size) = (Field::Sign.width(), Field::Size.width());
+    let mut changed = bytes.to_vec();
+    bits::set_field(&mut changed, bus_at(bus), sign, (kw < 0) as u32);
+    bits::set_field(&mut changed, bus_at(bus) + sign, size, kw.unsigned_abs() as u32);
+    changed
+}
+
 /// The bytes of a book with one branch's status bit given a value, and no other bit changed.
 pub fn with_status(bytes: &[u8], branch: usize, served: bool) -> Vec<u8> {
     let form = Form::of(bytes).expect("a book has a form");

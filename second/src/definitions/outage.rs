@@ -55,15 +55,10 @@ fn judge_flow(network: &Network, lent: &Lent, branch: usize, after: &[i64], judg
     }
 }
 
-/// The shortlist, from the table lent and the flows before and after.
+/// The shortlist, from the table lent and the flows before and after; the branch taken out is touched whatever its flow was.
 pub fn shortlist(network: &Network, table: &[u8], branch: usize, before: &[i64], after: &[i64]) -> Vec<bool> {
-    let touched = |k: usize| k == branch || before[k] != after[k];
-    let listed = |k: usize| {
-        let stretch = record::stretch(table, k);
-        let names_touched = record::named(stretch, before.len()).into_iter().any(touched);
-        !network.lines[k].served || stretch[0] != 1 || touched(k) || names_touched
-    };
-    (0..before.len()).map(listed).collect()
+    let touched: Vec<bool> = (0..before.len()).map(|k| k == branch || before[k] != after[k]).collect();
+    switching::shortlist(network, table, &touched)
 }
 
 /// A flow and a table of our own choice, as an accepted call may leave them (only as long as the counts need).

@@ -1,5 +1,5 @@
-//! What taking a branch out and bringing one back share: what they are lent, their refusals up to the flow, and a table
-//! in which some records are written anew and all others keep their bytes.
+//! What taking a branch out, bringing one back and moving load share: what they are lent, their refusals up to the flow, the
+//! shortlist, and a table in which some records are written anew and all others keep their bytes.
 
 use crate::definitions::answer::Answer;
 use crate::definitions::cuts::Cutter;
@@ -58,9 +58,13 @@ pub fn switchable(way: Way, lent: &Lent, branch: usize) -> Result<Network, Answe
     Ok(Network::of(&book, lent.percentage))
 }
 
-/// The same where, besides, the flow lent fits the book as it is lent; else 11 comes after those.
+/// The same where, besides, the flow lent fits; else 11 comes after those.
 pub fn fitting(way: Way, lent: &Lent, branch: usize) -> Result<Network, Answer> {
-    let network = switchable(way, lent, branch)?;
+    fitted(switchable(way, lent, branch)?, lent)
+}
+
+/// The network of the book as it is lent, where the flow lent fits it; else 11.
+pub fn fitted(network: Network, lent: &Lent) -> Result<Network, Answer> {
     if network.fits(&lent.flow[..network.lines.len()]) {
         Ok(network)
     } else {
@@ -87,6 +91,17 @@ pub fn judge_beyond(lent: &Lent, count: usize, flow: &[i64], table: &[u8], judge
     if lent.table[SIZE * count..] != table[SIZE * count..lent.table.len()] {
         judged.faults.push("the table beyond the branch count was written".into());
     }
+}
+
+/// The shortlist by the table lent: every branch that is out of service, whose record's byte 0 isn't 1, that is touched, or whose
+/// reroute names a touched branch. Reroute bits beyond the branch count are ignored.
+pub fn shortlist(network: &Network, table: &[u8], touched: &[bool]) -> Vec<bool> {
+    let listed = |k: usize| {
+        let stretch = record::stretch(table, k);
+        let names_touched = record::named(stretch, touched.len()).into_iter().any(|named| touched[named]);
+        !network.lines[k].served || stretch[0] != 1 || touched[k] || names_touched
+    };
+    (0..touched.len()).map(listed).collect()
 }
 
 /// The records to be written anew are true of the changed network and the flow left, all others keep their bytes.

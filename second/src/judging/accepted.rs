@@ -1,4 +1,5 @@
-//! What an accepted screen, outage or return left: judged by the definitions, and counted by kind.
+//! What an accepted screen, outage or return left: judged by the definitions, and counted by kind. A move of load has a file of its
+//! own beside it.
 
 use crate::definitions::answer::Answer;
 use crate::definitions::comeback;
@@ -53,8 +54,8 @@ impl Call<'_> {
         let Switch { way, network, flow, table, branch } = switch;
         let count = network.lines.len();
         self.beyond_untouched(count)?;
-        let start = self.run.before_out(*branch, self.before.percentage).filter(|_| *way == Way::Back);
-        start.map_or(Ok(()), |start| run::undone(start, self.left, count))?;
+        let start = self.run.before_undone(self.command, self.before.percentage);
+        start.map_or(Ok(()), |start| run::undone("out and back", start, self.left, count))?;
         let lent = self.before.lent(*flow, *table);
         let judged = match way {
             Way::Out => outage::judge(network, &lent, *branch, &self.left.flow, &self.left.table),
@@ -69,19 +70,27 @@ impl Call<'_> {
             Way::Out => self.count_out(network, *branch, &judged, held)?,
             Way::Back => self.count_back(network, &changed, *branch, &judged, held),
         }
-        percentages::switched(self.tally, self.run, *way, network, self.before, held);
-        percentages::shown(self.tally, self.command, self.before, self.left, &judged.anew);
-        let standing = if held { ", from a true table" } else { ", from an untrue table" };
-        islands::written(self.tally, way.name(), &changed, self.left, &judged.anew, standing)?;
-        islands::turned(self.tally, way.name(), self.before, self.left, count, standing);
-        if held {
-            // A true table stays true: the records kept are judged as well.
-            self.judge_records(&changed, (0..count).filter(|&k| !judged.anew[k]))?;
-        }
+        self.judge_rest(network, &changed, &judged, held)?;
         Ok(held)
     }
 
-    fn beyond_untouched(&self, count: usize) -> Result<(), String> {
+    /// What is held and counted of every accepted outage, return and move of load: the network before it and after, and whether the
+    /// table lent was true.
+    pub fn judge_rest(&mut self, network: &Network, changed: &Network, judged: &Judged, held: bool) -> Result<(), String> {
+        let (count, name) = (network.lines.len(), self.command.call().expect("a call"));
+        percentages::changed(self.tally, self.run, self.command, network, self.before, held);
+        percentages::shown(self.tally, self.command, self.before, self.left, &judged.anew);
+        let standing = if held { ", from a true table" } else { ", from an untrue table" };
+        islands::written(self.tally, name, changed, self.left, &judged.anew, standing)?;
+        islands::turned(self.tally, name, self.before, self.left, count, standing);
+        if held {
+            // A true table stays true: the records kept are judged as well.
+            self.judge_records(changed, (0..count).filter(|&k| !judged.anew[k]))?;
+        }
+        Ok(())
+    }
+
+    pub fn beyond_untouched(&self, count: usize) -> Result<(), String> {
         if self.before.flow[count..] != self.left.flow[count..] {
             return Err("flow space beyond the branch count was written".into());
         }
@@ -132,6 +141,7 @@ impl Call<'_> {
                 ("from an untrue table, its record names bits beyond the count", untrue && beyond),
                 ("from an untrue table, with records kept", untrue && judged.anew.contains(&false)),
                 ("from a true table", !untrue),
+                ("in a run mixed with moves of load, from a true table", self.run.after_moves(self.before.percentage)),
             ],
         );
         self.tally.records("out", "on the shortlist", judged);
@@ -147,12 +157,14 @@ impl Call<'_> {
         let kept_out = kept.iter().any(|&k| !network.lines[k].served);
         let kept_naming = kept.iter().any(|&k| record::names(old(k), branch));
         let filled = old(branch).iter().any(|&byte| byte != 0);
+        let undone = self.run.before_undone(self.command, percentage).is_some();
         self.tally.accepted("back", changed);
         self.tally.kinds(
             "back",
             &[
                 ("in a run mixed with outages, from a true table", self.run.after_outages(percentage)),
-                ("out and back with nothing else between, all as it was", self.run.before_out(branch, percentage).is_some()),
+                ("in a run mixed with moves of load, from a true table", self.run.after_moves(percentage)),
+                ("out and back with nothing else between, all as it was", undone),
                 ("that turned short records into carrying", turned > 0),
                 ("from an untrue table", untrue),
                 ("from an untrue table, with a record of byte 0 = 1 kept out of service", untrue && kept_out),

@@ -17,6 +17,7 @@ pub const ISLAND_FAULTS: &[(&str, Plant)] = &[
     ("a screen with paths over the lost branch itself", |done| by_path_of(done, "screen", |_| true)),
     ("an outage with paths over the lost branch itself", |done| by_path_of(done, "out", |_| true)),
     ("a return with paths over the lost branch itself", |done| by_path_of(done, "back", |_| true)),
+    ("a move of load with paths over the lost branch itself", |done| by_path_of(done, "move", |_| true)),
     ("branches of limit 0 left out of the path", |done| {
         by_path(done, |short| joined_over(short.network, short.branch, has_room))
     }),

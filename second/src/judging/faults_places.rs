@@ -17,6 +17,7 @@ pub const PLACE_FAULTS: &[(&str, Plant)] = &[
     ("a screen that drops the place", |done| dropped(done, "screen")),
     ("an outage that drops the place", |done| dropped(done, "out")),
     ("a return that drops the place", |done| dropped(done, "back")),
+    ("a move of load that drops the place", |done| dropped(done, "move")),
     ("a place with an accepted call", |done| added(done, 0)),
     ("a place with a wrong length", |done| added(done, 1)),
     ("a place with a tail bit", |done| added(done, 6)),

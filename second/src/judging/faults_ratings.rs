@@ -22,6 +22,7 @@ pub const RATING_FAULTS: &[(&str, Plant)] = &[
     ("a screen with verdicts by the normal limits", |done| records_by(done, "screen", normal_alone)),
     ("an outage with verdicts by the normal limits", |done| records_by(done, "out", normal_alone)),
     ("a return with verdicts by the normal limits", |done| records_by(done, "back", normal_alone)),
+    ("a move of load with verdicts by the normal limits", |done| records_by(done, "move", normal_alone)),
     ("verdicts by the second kVA without the power factor", |done| records_by_book(done, "screen", without_factor)),
     ("one branch called short, whose reroute is above a normal limit", |done| {
         record_by_normal(done, CARRYING, |_, excess| excess)

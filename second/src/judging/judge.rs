@@ -1,12 +1,13 @@
 //! Judges the output of a trial: by equality where the papers fix it, flows and reroutes by the definitions.
 //!
 //! Flows and reroutes are the other program's own choice, so the judge takes them over from a dump. For that a `D`
-//! must be the next command after each accepted `S`, `O` and `K`; a stream without it is answered as not to be judged. Every
+//! must be the next command after each accepted `S`, `O`, `K` and `V`; a stream without it is answered as not to be judged. Every
 //! other dump is due by equality: after a refused call it shows the spaces as they stood before the call.
 
 use crate::definitions::answer::Answer;
 use crate::definitions::book;
 use crate::definitions::comeback;
+use crate::definitions::load;
 use crate::definitions::network::Network;
 use crate::definitions::outage;
 use crate::definitions::record;
@@ -14,6 +15,7 @@ use crate::definitions::screen;
 use crate::definitions::switching::Way;
 use crate::judging::accepted::{Call, Switch};
 use crate::judging::forms;
+use crate::judging::loads::{self, Moved};
 use crate::judging::moved;
 use crate::judging::percentages;
 use crate::judging::ratings;
@@ -26,6 +28,18 @@ use crate::trial::stream::{commands, Command, FLOWS};
 enum Pending {
     Screen(Network),
     Switch(Switch),
+    Load(Moved),
+}
+
+impl Pending {
+    /// The book that the call must leave: no bit of it is a choice.
+    fn book(&self, before: &Spaces) -> Vec<u8> {
+        match self {
+            Pending::Screen(_) => before.bytes().to_vec(),
+            Pending::Switch(switch) => book::with_status(before.bytes(), switch.branch, switch.way.serves()),
+            Pending::Load(moved) => moved.shift.book(before.bytes()),
+        }
+    }
 }
 
 /// Such a call with its command.
@@ -98,6 +112,10 @@ impl Judge<'_> {
                 let accepted = self.switch(*way, *flow, *table, *branch);
                 self.call(command, accepted.map(Pending::Switch))
             }
+            &Command::Load { flow, table, shift } => {
+                let accepted = load::allowed(&self.spaces.lent(flow, table), shift);
+                self.call(command, accepted.map(|network| Pending::Load(Moved { network, flow, table, shift })))
+            }
             Command::Dump => self.dump(),
             other => self.plain(other),
         }
@@ -126,7 +144,8 @@ impl Judge<'_> {
             self.refused(command, answer);
             match (command, answer.number) {
                 (Command::Screen { .. }, 12) => ratings::screen_refused_12(&mut self.tally, &self.spaces),
-                (Command::Switch { way, .. }, 11) => ratings::refused_11(&mut self.tally, &self.spaces, *way),
+                (Command::Load { shift, .. }, _) => loads::refused(&mut self.tally, &self.run, &self.spaces, *shift, answer),
+                (Command::Switch { .. }, 11) => ratings::refused_11(&mut self.tally, &self.spaces, word(command)),
                 (Command::Switch { branch, .. }, 12) => {
                     ratings::refused_12(&mut self.tally, &self.run, &self.spaces, *branch, answer)?
                 }
@@ -179,29 +198,25 @@ impl Judge<'_> {
         self.tally.count("dumps");
         let mut left = self.spaces.clone();
         let pending = self.pending.take();
-        if let Some((_, Pending::Switch(switch))) = &pending {
-            let book = book::with_status(left.bytes(), switch.branch, switch.way.serves());
-            left.book[..book.len()].copy_from_slice(&book);
+        if let Some((_, pending)) = &pending {
+            left.leave(&pending.book(&self.spaces), &[], &[]);
         }
-        self.due(&left.book_line())?;
+        self.due(&left.book_line()).map_err(|fault| format!("the book as it must be now, {} bytes: {fault}", left.length))?;
         let Some((command, pending)) = pending else {
             return left.dump()[1..].iter().try_for_each(|line| self.due(line));
         };
         self.take_over(&mut left)?;
         let mut call = Call { command: &command, before: &self.spaces, left: &left, run: &self.run, tally: &mut self.tally };
-        let name = match &pending {
-            Pending::Screen(network) => {
-                call.judge_screen(network)?;
-                self.run.screened(self.spaces.percentage);
-                "screen"
-            }
-            Pending::Switch(switch) => {
-                let held = call.judge_switch(switch)?;
-                self.run.switched(switch.way, switch.branch, &self.spaces, held);
-                switch.way.name()
-            }
+        let held = match &pending {
+            Pending::Screen(network) => call.judge_screen(network).map(|()| None)?,
+            Pending::Switch(switch) => Some(call.judge_switch(switch)?),
+            Pending::Load(moved) => Some(call.judge_load(moved)?),
         };
-        forms::accepted(&mut self.tally, name, self.spaces.bytes());
+        match held {
+            None => self.run.screened(self.spaces.percentage),
+            Some(held) => self.run.changed(&command, &self.spaces, held),
+        }
+        forms::accepted(&mut self.tally, word(&command), self.spaces.bytes());
         self.spaces = left;
         Ok(())
     }

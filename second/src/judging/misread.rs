@@ -66,9 +66,12 @@ impl std::fmt::Display for Misreading {
 /// What a call answers by a network where nothing is refused before its limits count: accepted, 11 or 12.
 pub fn answer(command: &Command, network: &Network, lent: &Spaces) -> Answer {
     let excess = match *command {
-        Command::Switch { .. } if !network.fits(&lent.flow[..network.lines.len()]) => return Answer::refused(11),
+        Command::Switch { .. } | Command::Load { .. } if !network.fits(&lent.flow[..network.lines.len()]) => {
+            return Answer::refused(11);
+        }
         Command::Switch { way: Way::Back, .. } => return Answer::ACCEPTED,
         Command::Switch { way: Way::Out, branch, .. } => cuts::base_excess(&network.without(branch)),
+        Command::Load { shift, .. } => cuts::base_excess(&shift.changed(network)),
         _ => cuts::base_excess(network),
     };
     if excess.amount > 0 {

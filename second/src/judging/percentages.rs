@@ -6,6 +6,7 @@ use crate::definitions::answer::Answer;
 use crate::definitions::book;
 use crate::definitions::comeback;
 use crate::definitions::cuts::Cutter;
+use crate::definitions::load;
 use crate::definitions::network::Network;
 use crate::definitions::outage;
 use crate::definitions::percentage::{Percentage, NAMEPLATE};
@@ -13,7 +14,7 @@ use crate::definitions::record::{self, SIZE};
 use crate::definitions::screen;
 use crate::definitions::switching::{Lent, Way};
 use crate::judging::misread::{self, Misreading};
-use crate::judging::run::Run;
+use crate::judging::run::{Run, Since};
 use crate::judging::tally::Tally;
 use crate::trial::spaces::Spaces;
 use crate::trial::stream::Command;
@@ -111,6 +112,7 @@ pub fn hidden(command: &Command, lent: &Spaces) -> Answer {
                 Way::Back => comeback::allowed(&given, branch),
             }
         }
+        Command::Load { flow, table, shift } => load::allowed(&Lent { percentage: NAMEPLATE, ..lent.lent(flow, table) }, shift),
         Command::Screen { flow, table } => screen::screened(NAMEPLATE, lent.bytes(), flow, table),
         _ => unreachable!("a call that takes a percentage"),
     };
@@ -150,10 +152,10 @@ pub fn otherwise(network: &Network, table: &[u8], anew: &[bool]) -> Option<(usiz
     shown.find(|(k, bytes)| bytes[..20] != record::stretch(table, *k)[..20])
 }
 
-/// Counts an accepted outage or return by the run that it belongs to and by a change of the percentage before it; `held` says
-/// whether the table lent was true at its percentage.
-pub fn switched(tally: &mut Tally, run: &Run, way: Way, network: &Network, before: &Spaces, held: bool) {
-    let (call, percentage) = (way.name(), before.percentage);
+/// Counts an accepted outage, return or move of load by the run that it belongs to and by a change of the percentage before it;
+/// `held` says whether the table lent was true at its percentage.
+pub fn changed(tally: &mut Tally, run: &Run, command: &Command, network: &Network, before: &Spaces, held: bool) {
+    let (call, percentage) = (command.call().expect("a call"), before.percentage);
     let truth = if held { "the table still true" } else { "the table no longer true" };
     if let Some(change) = run.change(percentage) {
         tally.count(&format!("{call} accepted, after the percentage {change}, {truth}"));
@@ -164,15 +166,25 @@ pub fn switched(tally: &mut Tally, run: &Run, way: Way, network: &Network, befor
     if !held && true_at_nameplate(network, before) {
         tally.count(&format!("{call} accepted, from a table true at 100 percent and not at its own"));
     }
-    if let Some((outages, returns)) = run.since_screen(percentage) {
+    if let Some(since) = run.since_screen(percentage) {
         tally.count(&format!("{call} accepted, in a run under one percentage below 100"));
-        let first = if way == Way::Out { outages == 0 } else { returns == 0 };
-        let other = if way == Way::Out { returns } else { outages };
-        let kinds = [("outages", way == Way::Out), ("returns", way == Way::Back), ("both", other > 0)];
-        for (kind, _) in kinds.iter().filter(|(_, holds)| first && *holds) {
+        for kind in comes_first(call, since) {
             tally.count(&format!("runs under one percentage below 100, with {kind}"));
         }
     }
+}
+
+/// What a run holds from now on and didn't before, where the call is the first of its kind in it.
+fn comes_first(call: &str, since: Since) -> Vec<&'static str> {
+    let Since { outages, returns, moves } = since;
+    let (own, name, others) = match call {
+        "out" => (outages, "outages", [returns, moves]),
+        "back" => (returns, "returns", [outages, moves]),
+        _ => (moves, "moves", [outages, returns]),
+    };
+    let both = name != "moves" && others[0] > 0;
+    let kinds = [(name, true), ("both", both), ("all three", others.iter().all(|&other| other > 0))];
+    kinds.into_iter().filter(|(_, holds)| own == 0 && *holds).map(|(kind, _)| kind).collect()
 }
 
 /// Whether the table lent is true of the book and the flow at 100 percent.

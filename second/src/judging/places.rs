@@ -11,7 +11,7 @@ use std::collections::BTreeMap;
 use std::fmt::{Display, Formatter, Result};
 
 /// The calls that pass a place on, each by the word that begins its answer.
-pub const CALLS: [&str; 6] = ["read", "write", "moved", "screen", "out", "back"];
+pub const CALLS: [&str; 7] = ["read", "write", "moved", "screen", "out", "back", "move"];
 
 /// What is counted of a refusal beside what was wrong: how its place stands among the items, and what else is wrong.
 #[derive(Clone, Copy, Debug, PartialEq, Eq, PartialOrd, Ord)]

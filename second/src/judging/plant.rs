@@ -6,6 +6,7 @@ use crate::definitions::comeback;
 use crate::definitions::cuts::{self, Cutter};
 use crate::definitions::items::Fault;
 use crate::definitions::limits::Limits;
+use crate::definitions::load;
 use crate::definitions::network::{Excess, Network, Verdict};
 use crate::definitions::outage;
 use crate::definitions::record::{self, SIZE};
@@ -57,7 +58,7 @@ pub fn read_numbers(done: &mut Done, place: usize) -> bool {
     matches!(done.command, Command::Read { .. }) && line_with(done, "injections", |words| words[place].push('1'))
 }
 
-/// Whether the command is an accepted `S`, `O` or `K`; the network is the one after it.
+/// Whether the command is an accepted `S`, `O`, `K` or `V`; the network is the one after it.
 pub fn accepted(done: &mut Done, plant: impl FnOnce(&Network, &mut Done) -> bool) -> bool {
     if !done.command.takes_percentage() || done.lines[0].split(' ').nth(1) != Some("0") {
         return false;
@@ -80,15 +81,15 @@ pub fn accepted_out(done: &mut Done, plant: impl FnOnce(&Network, usize, &mut Do
     accepted_switch(Way::Out, done, plant)
 }
 
-/// Records that are written anew: all by a screen, those on the shortlist by an outage, those that a return writes.
+/// Records that are written anew: all by a screen, those on the shortlist by an outage or a move of load, those that a return
+/// writes.
 pub fn judged_records(network: &Network, done: &Done) -> Vec<usize> {
     let count = network.lines.len();
-    let table = &done.before.table;
+    let (table, before, after) = (&done.before.table, &done.before.flow[..count], &done.after.flow[..count]);
     let anew = match *done.command {
-        Command::Switch { way: Way::Out, branch, .. } => {
-            outage::shortlist(network, table, branch, &done.before.flow[..count], &done.after.flow[..count])
-        }
+        Command::Switch { way: Way::Out, branch, .. } => outage::shortlist(network, table, branch, before, after),
         Command::Switch { way: Way::Back, branch, .. } => comeback::anew(table, branch, count),
+        Command::Load { .. } => load::shortlist(network, table, before, after),
         _ => vec![true; count],
     };
     (0..count).filter(|&k| anew[k]).collect()
@@ -204,21 +205,29 @@ pub fn own_flow_only(branch: usize, old: &[u8], touched: &[bool]) -> bool {
     old[0] == 1 && touched[branch] && record::named(old, touched.len()).into_iter().all(|k| !touched[k])
 }
 
-/// Gives a shortlisted record its old bytes back where these are wrong now.
+/// Gives a record that an outage shortlists its old bytes back where these are wrong now.
 pub fn shortlisted_kept(done: &mut Done, wanted: impl Fn(usize, &[u8], &[bool]) -> bool) -> bool {
-    accepted_out(done, |network, branch, done| {
-        let count = network.lines.len();
-        let mut cutter = Cutter::new(network);
-        let touched: Vec<bool> = (0..count).map(|k| k == branch || done.before.flow[k] != done.after.flow[k]).collect();
-        for k in judged_records(network, done).into_iter().filter(|&k| k != branch) {
-            let old = record::stretch(&done.before.table, k).to_vec();
-            if wanted(k, &old, &touched) && screen::record_holds(&mut cutter, &done.after.flow[..count], k, &old).is_err() {
-                done.after.table[SIZE * k..SIZE * (k + 1)].copy_from_slice(&old);
-                return true;
-            }
+    accepted_out(done, |network, branch, done| listed_kept(network, Some(branch), done, wanted))
+}
+
+/// The same for any call with a shortlist; the branch taken out, if one is, was touched, and its own record isn't looked at.
+pub fn listed_kept(
+    network: &Network,
+    taken: Option<usize>,
+    done: &mut Done,
+    wanted: impl Fn(usize, &[u8], &[bool]) -> bool,
+) -> bool {
+    let count = network.lines.len();
+    let mut cutter = Cutter::new(network);
+    let touched: Vec<bool> = (0..count).map(|k| taken == Some(k) || done.before.flow[k] != done.after.flow[k]).collect();
+    for k in judged_records(network, done).into_iter().filter(|&k| taken != Some(k)) {
+        let old = record::stretch(&done.before.table, k).to_vec();
+        if wanted(k, &old, &touched) && screen::record_holds(&mut cutter, &done.after.flow[..count], k, &old).is_err() {
+            done.after.table[SIZE * k..SIZE * (k + 1)].copy_from_slice(&old);
+            return true;
         }
-        false
-    })
+    }
+    false
 }
 
 /// Whether the command is a call that was accepted.

@@ -7,7 +7,6 @@ use crate::definitions::cuts;
 use crate::definitions::limits::Limits;
 use crate::definitions::network::Network;
 use crate::definitions::record;
-use crate::definitions::switching::Way;
 use crate::judging::run::Run;
 use crate::judging::tally::Tally;
 use crate::trial::spaces::Spaces;
@@ -57,11 +56,11 @@ pub fn screen_refused_12(tally: &mut Tally, lent: &Spaces) {
     }
 }
 
-/// Counts a switching call refused with 11 whose flow the second limits would do for.
-pub fn refused_11(tally: &mut Tally, lent: &Spaces, way: Way) {
+/// Counts a call refused with 11 whose flow the second limits would do for.
+pub fn refused_11(tally: &mut Tally, lent: &Spaces, call: &str) {
     let network = lent_network(lent);
     if network.fits_within(Limits::Second, &lent.flow[..network.lines.len()]) {
-        tally.count(&format!("{} refused 11, the flow fits by the second limits", way.name()));
+        tally.count(&format!("{call} refused 11, the flow fits by the second limits"));
     }
 }
 

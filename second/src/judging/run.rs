@@ -1,4 +1,4 @@
-//! What is known of a run of calls: whether its table is true, what came since the screen, which outage a return may undo.
+//! What is known of a run of calls: whether its table is true, what came since the screen, which call the next may undo.
 
 use crate::definitions::book;
 use crate::definitions::network::Network;
@@ -7,6 +7,7 @@ use crate::definitions::record::SIZE;
 use crate::definitions::screen;
 use crate::definitions::switching::Way;
 use crate::trial::spaces::Spaces;
+use crate::trial::stream::Command;
 
 #[derive(Default)]
 pub struct Run {
@@ -19,11 +20,37 @@ pub struct Run {
     left_at: Option<Percentage>,
     /// The table was true all along since a screen, under one percentage.
     screened: bool,
-    /// Outages and returns accepted since the table was known to be true, under one percentage.
-    outages: usize,
-    returns: usize,
-    /// Where nothing was changed since an outage from a true table: its branch, and the spaces before it.
-    last_out: Option<(usize, Spaces)>,
+    /// What was accepted since the table was known to be true, under one percentage.
+    since: Since,
+    /// Where nothing was changed since an outage or a move of load from a true table: its command, and the spaces before it.
+    last: Option<(Command, Spaces)>,
+}
+
+/// How many outages, returns and moves of load came.
+#[derive(Clone, Copy, Default)]
+pub struct Since {
+    pub outages: usize,
+    pub returns: usize,
+    pub moves: usize,
+}
+
+impl Since {
+    fn count(&mut self, command: &Command) {
+        match command {
+            Command::Switch { way: Way::Out, .. } => self.outages += 1,
+            Command::Switch { way: Way::Back, .. } => self.returns += 1,
+            _ => self.moves += 1,
+        }
+    }
+}
+
+/// Whether a call takes back what another did: the branch taken out comes back, the kW moved go the other way.
+fn undoes(later: &Command, earlier: &Command) -> bool {
+    match (later, earlier) {
+        (Command::Switch { way: Way::Back, branch, .. }, Command::Switch { way: Way::Out, branch: taken, .. }) => branch == taken,
+        (Command::Load { shift, .. }, Command::Load { shift: moved, .. }) => *shift == moved.turned(),
+        _ => false,
+    }
 }
 
 impl Run {
@@ -33,18 +60,18 @@ impl Run {
         *self = Run { true_at: at, was_true: true, left_at: at, screened: true, ..Run::default() };
     }
 
-    /// An accepted switching call was judged, by which a table that held at its percentage stays true at it.
-    pub fn switched(&mut self, way: Way, branch: usize, before: &Spaces, held: bool) {
+    /// An accepted outage, return or move of load was judged, by which a table that held at its percentage stays true at it.
+    pub fn changed(&mut self, command: &Command, before: &Spaces, held: bool) {
         let at = Some(before.percentage);
         if self.true_at != at {
             // Another percentage, or a table that only now was found true: a run of its own.
             *self = Run::default();
         }
-        let out = held && way == Way::Out;
         (self.true_at, self.was_true, self.left_at) = (at.filter(|_| held), held, at);
-        self.outages += out as usize;
-        self.returns += (held && !out) as usize;
-        self.last_out = out.then(|| (branch, before.clone()));
+        self.last = held.then(|| (command.clone(), before.clone()));
+        if held {
+            self.since.count(command);
+        }
     }
 
     /// A command stored something or made a call whose effect is fixed.
@@ -62,12 +89,22 @@ impl Run {
 
     /// Whether a call at a percentage belongs to a run under it with an outage before it and a table true all along.
     pub fn after_outages(&self, percentage: Percentage) -> bool {
-        self.true_at == Some(percentage) && self.outages > 0
+        self.true_at == Some(percentage) && self.since.outages > 0
     }
 
-    /// The outages and returns accepted since a screen at this percentage, where the table was true all along.
-    pub fn since_screen(&self, percentage: Percentage) -> Option<(usize, usize)> {
-        (self.screened && self.true_at == Some(percentage)).then_some((self.outages, self.returns))
+    /// The same with an outage or a return before it.
+    pub fn after_switching(&self, percentage: Percentage) -> bool {
+        self.true_at == Some(percentage) && self.since.outages + self.since.returns > 0
+    }
+
+    /// The same with a move of load before it.
+    pub fn after_moves(&self, percentage: Percentage) -> bool {
+        self.true_at == Some(percentage) && self.since.moves > 0
+    }
+
+    /// What was accepted since a screen at this percentage, where the table was true all along.
+    pub fn since_screen(&self, percentage: Percentage) -> Option<Since> {
+        (self.screened && self.true_at == Some(percentage)).then_some(self.since)
     }
 
     /// How the percentage of a call stands to the one at which its flow and table were left, where that is another.
@@ -76,10 +113,10 @@ impl Run {
         Some(if left_at < percentage { "rose" } else { "fell" })
     }
 
-    /// The spaces before the outage of this branch, where nothing but that outage came since and the percentage is the same.
-    pub fn before_out(&self, branch: usize, percentage: Percentage) -> Option<&Spaces> {
-        let same = |(taken, before): &&(usize, Spaces)| *taken == branch && before.percentage == percentage;
-        self.last_out.as_ref().filter(same).map(|(_, before)| before)
+    /// The spaces before the call that this one takes back, where nothing but that call came since and the percentage is the same.
+    pub fn before_undone(&self, command: &Command, percentage: Percentage) -> Option<&Spaces> {
+        let same = |(last, before): &&(Command, Spaces)| undoes(command, last) && before.percentage == percentage;
+        self.last.as_ref().filter(same).map(|(_, before)| before)
     }
 
     /// Whether the table is true of the flow and a network, the book's at the percentage in force: known to be, or found so.
@@ -103,15 +140,15 @@ impl Run {
     }
 }
 
-/// What is not as it was before a branch was taken out and brought back with nothing else between: the book has its bytes
-/// back, and every record its verdict, its shortage and its group.
-pub fn undone(start: &Spaces, end: &Spaces, count: usize) -> Result<(), String> {
+/// What is not as it was before a branch was taken out and brought back, or load moved there and back, with nothing else between:
+/// the book has its bytes back, and every record its verdict, its shortage and its group.
+pub fn undone(ways: &str, start: &Spaces, end: &Spaces, count: usize) -> Result<(), String> {
     if start.bytes() != end.bytes() {
-        return Err("out and back, the book is not as it was".into());
+        return Err(format!("{ways}, the book is not as it was"));
     }
     let fixed = |spaces: &Spaces, k: usize| spaces.table[SIZE * k..SIZE * k + 20].to_vec();
     match (0..count).find(|&k| fixed(start, k) != fixed(end, k)) {
-        Some(k) => Err(format!("out and back, record {k} has another verdict, shortage or group than before")),
+        Some(k) => Err(format!("{ways}, record {k} has another verdict, shortage or group than before")),
         None => Ok(()),
     }
 }

@@ -3,6 +3,8 @@
 use crate::judging::faults::{Plant, FAULTS};
 use crate::judging::faults_forms::FORM_FAULTS;
 use crate::judging::faults_islands::ISLAND_FAULTS;
+use crate::judging::faults_loads::LOAD_FAULTS;
+use crate::judging::faults_loads_left::LOAD_LEFT_FAULTS;
 use crate::judging::faults_percentages::PERCENTAGE_FAULTS;
 use crate::judging::faults_places::PLACE_FAULTS;
 use crate::judging::faults_ratings::RATING_FAULTS;
@@ -53,8 +55,9 @@ pub fn selftest() -> bool {
         }
     }
     println!("{} good outputs taken", streams.len());
-    let lists = [FAULTS, RETURN_FAULTS, FORM_FAULTS, RATING_FAULTS, PLACE_FAULTS, PERCENTAGE_FAULTS, ISLAND_FAULTS];
-    let faults: Vec<&(&str, Plant)> = lists.into_iter().flatten().collect();
+    let first = [FAULTS, RETURN_FAULTS, FORM_FAULTS, RATING_FAULTS, PLACE_FAULTS];
+    let later = [PERCENTAGE_FAULTS, ISLAND_FAULTS, LOAD_FAULTS, LOAD_LEFT_FAULTS];
+    let faults: Vec<&(&str, Plant)> = first.into_iter().chain(later).flatten().collect();
     for ((name, _), (planted, found)) in faults.iter().zip(all_tried(&streams, &faults)) {
         println!("{found:>3} of {planted:>3} found: {name}");
         good &= planted > 0 && found == planted;

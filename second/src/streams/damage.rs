@@ -151,7 +151,7 @@ pub fn registers(stream: &mut Stream) {
 
 /// An end that is no command: another byte, a number too large, or an end inside a command.
 pub fn bad_command(stream: &mut Stream) {
-    let bad: &[u8] = match stream.random.below(22) {
+    let bad: &[u8] = match stream.random.below(26) {
         0 => b"x",
         1 => b"F\x01\x00\x00\x00\x00\x00",
         2 => b"T\x34\x00\x00",
@@ -173,6 +173,10 @@ pub fn bad_command(stream: &mut Stream) {
         18 => b"X\x00\x01\x00\x00\x00\x01\x00\x01\x00\x01\x08\x35",
         19 => b"X\x00\x01\x00\x00\x00\x01\x00\x01\x05\x01\x00\x07",
         20 => b"Y",
+        21 => b"V\x01\x01\x00\x00\x00\x00\x00\x01\x00\x00\x00\x00",
+        22 => b"V\x01\x00\x34\x01\x00\x00\x00\x01\x00\x00\x00\x00",
+        23 => b"V\x01\x00\x34\x00\x00\x00\x00\x01\x00\x00\x00",
+        24 => b"V\x01\x00\x34\x00\xff",
         _ => b"B\x00\x05\x01\x02",
     };
     stream.bytes.extend(bad);

@@ -5,7 +5,7 @@ use crate::books::random_ratings;
 use crate::definitions::record;
 use crate::definitions::switching::Way;
 use crate::streams::under_way::Stream;
-use crate::streams::{damage, make_forms, make_islands, make_percentages, make_places};
+use crate::streams::{damage, make_forms, make_islands, make_loads, make_loads_refused, make_percentages, make_places};
 use crate::streams::{make_ratings, make_returns, make_tables, make_written};
 use crate::trial::stream::{Command, FLOWS, INJECTIONS, NUMBERS, TABLE};
 
@@ -31,7 +31,7 @@ pub fn stream(seed: u64) -> Vec<u8> {
 
 /// One episode of any kind.
 fn episode(stream: &mut Stream) {
-    match stream.random.below(45) {
+    match stream.random.below(58) {
         0 => run(stream),
         1 | 2 => run_with_spoilt_table(stream),
         3 | 4 => make_tables::lent_flow(stream),
@@ -57,7 +57,12 @@ fn episode(stream: &mut Stream) {
         39 | 40 => make_percentages::out_of_range(stream),
         41 | 42 => make_islands::switched(stream),
         43 => make_islands::screened(stream),
-        _ => make_islands::mistaken(stream),
+        44 => make_islands::mistaken(stream),
+        45..=51 => make_loads::mixed(stream),
+        52 => make_loads::from_untrue(stream),
+        53 | 54 => make_loads_refused::refused(stream),
+        55 | 56 => make_loads::edges(stream),
+        _ => make_loads::changed(stream),
     }
 }
 

@@ -12,7 +12,7 @@ use crate::trial::stream::Command;
 const TRIES: usize = 12;
 
 /// A book with ties in the book space; its number of branches.
-fn tied_book(stream: &mut Stream) -> usize {
+pub fn tied_book(stream: &mut Stream) -> usize {
     let percentage = stream.good_percentage();
     let (buses, ties) = tied_counts(&mut stream.random);
     let (book, _) = tied(&mut stream.random, percentage, buses, ties);

@@ -10,6 +10,8 @@ use crate::definitions::screen;
 use crate::definitions::switching::Way;
 use crate::streams::damage::{self, spoilt_book, Damage};
 use crate::streams::make_forms;
+use crate::streams::make_loads::plausible;
+use crate::streams::make_loads_refused::{any as any_shift, refused_one};
 use crate::streams::stored::{back, lend, out, put_record, written, READ_WHOLE, WHOLE};
 use crate::streams::under_way::Stream;
 use crate::trial::stream::{Command, FLOWS, INJECTIONS, NUMBERS, TABLE};
@@ -135,6 +137,8 @@ pub fn out_of_range(stream: &mut Stream) {
         no_percentage_told(stream);
         hidden(stream, count);
     }
+    no_percentage_told(stream);
+    hidden_move(stream, count);
     untaken(stream);
     if stream.random.once_in(2) {
         stream.percentage(percentage);
@@ -144,8 +148,8 @@ pub fn out_of_range(stream: &mut Stream) {
         let damage = *stream.random.pick(&Damage::ALL);
         let bytes = spoilt_book(&mut stream.random, damage);
         stream.add(Command::Book(bytes));
-        let branch = stream.random.below(300);
-        for call in [WHOLE, out(branch), back(branch)] {
+        let (branch, shift) = (stream.random.below(300), any_shift(&mut stream.random));
+        for call in [WHOLE, out(branch), back(branch), Command::Load { flow: FLOWS, table: TABLE, shift }] {
             no_percentage_told(stream);
             stream.add(call);
         }
@@ -185,6 +189,16 @@ fn hidden(stream: &mut Stream, count: usize) {
         }
         _ => stream.screen(count),
     }
+}
+
+/// Moves of load on a good book: one that could be accepted, one that is refused anyway, one with too little room.
+fn hidden_move(stream: &mut Stream, count: usize) {
+    if let Some(shift) = plausible(stream) {
+        stream.load(count, shift);
+        let table = stream.less(record::SIZE * count);
+        stream.add(Command::Load { flow: FLOWS, table, shift });
+    }
+    refused_one(stream, count);
 }
 
 /// Calls that take no percentage, on the book as it stands.

@@ -5,9 +5,10 @@ use crate::definitions::form::Form;
 use crate::definitions::items::Items;
 use crate::definitions::wrong::Wrong;
 use crate::streams::aim::{self, Held};
+use crate::streams::make_loads_refused::any;
 use crate::streams::stored::{back, out, written, READ_WHOLE, WHOLE};
 use crate::streams::under_way::Stream;
-use crate::trial::stream::{Command, BOOK, INJECTIONS, NUMBERS};
+use crate::trial::stream::{Command, BOOK, FLOWS, INJECTIONS, NUMBERS, TABLE};
 
 /// Damaged books of either form, each read, at times into too little room, and lent to another call that reads one.
 pub fn lent(stream: &mut Stream) {
@@ -21,7 +22,8 @@ pub fn lent(stream: &mut Stream) {
         let read = if stream.random.once_in(4) { short } else { READ_WHOLE };
         stream.add(read);
         let (branch, to, room) = (stream.random.below(300), *stream.random.pick(&Form::BOTH), stream.less(BOOK));
-        let calls = [Command::Move { form: to, room }, WHOLE, out(branch), back(branch)];
+        let moved = Command::Load { flow: FLOWS, table: TABLE, shift: any(&mut stream.random) };
+        let calls = [Command::Move { form: to, room }, WHOLE, out(branch), back(branch), moved];
         let call = stream.random.pick(&calls).clone();
         stream.add(call);
         if stream.dumps_left == 0 {

@@ -9,6 +9,7 @@ use crate::definitions::network::{Network, Verdict};
 use crate::definitions::record;
 use crate::definitions::reroutes;
 use crate::definitions::screen;
+use crate::streams::make_loads::plausible;
 use crate::streams::stored::{lend, put_record};
 use crate::streams::under_way::Stream;
 use crate::trial::spaces::Spaces;
@@ -105,7 +106,7 @@ pub fn between(stream: &mut Stream) {
     }
 }
 
-/// Such a flow is lent to an outage and to a return: 11. It is what a branch leaves that carries and can't be taken out for
+/// Such a flow is lent to an outage, to a return and to a move of load: 11. It is what a branch leaves that carries and can't be taken out for
 /// good.
 fn lent_between(stream: &mut Stream) {
     let count = stream.heavy_book();
@@ -131,5 +132,8 @@ fn lent_between(stream: &mut Stream) {
         } else {
             stream.back(count, branch);
         }
+    }
+    if let Some(shift) = plausible(stream) {
+        stream.load(count, shift);
     }
 }

@@ -8,7 +8,8 @@ use crate::streams::{make_forms, make_tables};
 use crate::trial::stream::{Command, FLOWS, TABLE};
 
 /// Ways to spoil a book such that 1 to 7 are each met often.
-const SPOILT: [Damage; 7] = [Damage::Cut, Damage::Buses, Damage::Fill, Damage::Bus, Damage::Branch, Damage::Tail, Damage::Sum];
+pub const SPOILT: [Damage; 7] =
+    [Damage::Cut, Damage::Buses, Damage::Fill, Damage::Bus, Damage::Branch, Damage::Tail, Damage::Sum];
 
 /// A screen, then outages and returns in any order, at times a branch out and straight back, at times any branch at all;
 /// the book as it stands then is moved at times.
@@ -42,7 +43,7 @@ pub fn mixed(stream: &mut Stream) {
     }
 }
 
-fn take_out(stream: &mut Stream, count: usize) {
+pub fn take_out(stream: &mut Stream, count: usize) {
     if let Some(branch) = stream.spare() {
         stream.out(count, branch);
     }
@@ -83,8 +84,8 @@ fn oddities(stream: &mut Stream, count: usize, branch: usize) {
     }
 }
 
-/// Every refusal of the call, each with a table that is true as far as it can be and with one that isn't.
-pub fn refused(stream: &mut Stream) {
+/// A book that is screened, with branches taken out, and a table that is true of it or spoilt; how many branches it has.
+pub fn true_or_spoilt(stream: &mut Stream) -> usize {
     let count = stream.good_book();
     stream.screen(count);
     take_out(stream, count);
@@ -93,6 +94,12 @@ pub fn refused(stream: &mut Stream) {
         make_tables::spoil(stream, count, branch);
         stream.add(Command::Table(record::SIZE * branch + 1, 9));
     }
+    count
+}
+
+/// Every refusal of the call, each with a table that is true as far as it can be and with one that isn't.
+pub fn refused(stream: &mut Stream) {
+    let count = true_or_spoilt(stream);
     short_or_no_branch(stream, count);
     unfit(stream, count);
     for damage in SPOILT {

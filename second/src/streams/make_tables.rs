@@ -65,6 +65,21 @@ pub fn spoil(stream: &mut Stream, count: usize, branch: usize) {
 
 /// A fitting flow of our own choice is lent with a table that no screen made; then a run of outages.
 pub fn lent_flow(stream: &mut Stream) {
+    let count = lend_made_up(stream);
+    for _ in 0..1 + stream.random.below(4) {
+        let Some(branch) = stream.spare() else { return };
+        if stream.random.once_in(3) {
+            reroute(stream, branch, count);
+        }
+        stream.out(count, branch);
+        if stream.dumps_left == 0 {
+            return;
+        }
+    }
+}
+
+/// Puts a book in place, a fitting flow of our own choice and a table that no screen made; the number of branches.
+pub fn lend_made_up(stream: &mut Stream) -> usize {
     let (buses, count) = counts(&mut stream.random);
     let percentage = stream.good_percentage();
     let (book, flow) = served_with_flow(&mut stream.random, percentage, buses, count);
@@ -82,14 +97,5 @@ pub fn lent_flow(stream: &mut Stream) {
             reroute(stream, branch, count);
         }
     }
-    for _ in 0..1 + stream.random.below(4) {
-        let Some(branch) = stream.spare() else { return };
-        if stream.random.once_in(3) {
-            reroute(stream, branch, count);
-        }
-        stream.out(count, branch);
-        if stream.dumps_left == 0 {
-            return;
-        }
-    }
+    count
 }

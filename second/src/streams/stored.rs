@@ -8,14 +8,17 @@ use crate::books::sources;
 use crate::definitions::bits;
 use crate::definitions::book::{pack, Book};
 use crate::definitions::form::{Form, HEADER};
+use crate::definitions::load::Shift;
 use crate::definitions::network::Verdict;
 use crate::definitions::record;
 use crate::definitions::switching::Way;
 use crate::streams::under_way::Stream;
-use crate::streams::{stored_forms, stored_islands, stored_percentages, stored_places, stored_ratings, stored_returns};
+use crate::streams::{
+    stored_forms, stored_islands, stored_loads, stored_percentages, stored_places, stored_ratings, stored_returns,
+};
 use crate::trial::stream::{Command, BOOK, FLOWS, INJECTIONS, NUMBERS, TABLE};
 
-/// Calls that are lent all the space there is: a screen, a read, an outage, a return.
+/// Calls that are lent all the space there is: a screen, a read, an outage, a return, a move of load.
 pub const WHOLE: Command = Command::Screen { flow: FLOWS, table: TABLE };
 pub const READ_WHOLE: Command = Command::Read { injections: INJECTIONS, branches: NUMBERS };
 
@@ -25,6 +28,10 @@ pub fn out(branch: usize) -> Command {
 
 pub fn back(branch: usize) -> Command {
     Command::Switch { way: Way::Back, flow: FLOWS, table: TABLE, branch }
+}
+
+pub fn load(up: usize, down: usize, kw: u32) -> Command {
+    Command::Load { flow: FLOWS, table: TABLE, shift: Shift { up, down, kw } }
 }
 
 /// A write in a form: buses, branches, factor, and the room of the injections, the branch numbers and the output.
@@ -53,6 +60,7 @@ pub fn stream() -> Vec<u8> {
     stored_places::add(&mut stream);
     stored_percentages::add(&mut stream);
     stored_islands::add(&mut stream);
+    stored_loads::add(&mut stream);
     // A bad command stops a stream, so it stays the last.
     stream.bytes.extend(b"F\x01\x00");
     stream.bytes

@@ -6,6 +6,7 @@ use crate::books::random_ratings::{heavy, heavy_counts};
 use crate::definitions::book::{self, pack, Book};
 use crate::definitions::cuts::{self, Cutter};
 use crate::definitions::form::LARGEST;
+use crate::definitions::load::Shift;
 use crate::definitions::network::Network;
 use crate::definitions::percentage::{Percentage, NAMEPLATE};
 use crate::definitions::record;
@@ -21,7 +22,7 @@ pub struct Stream {
     pub random: Random,
     /// Dumps are long, so a stream has only so many.
     pub dumps_left: usize,
-    /// A refused `S`, `O` or `K` is followed by a dump once in so many times.
+    /// A refused `S`, `O`, `K` or `V` is followed by a dump once in so many times.
     pub dump_refused: usize,
     /// Every refused call is followed by a dump, so that what it left is seen.
     pub dump_each_refused: bool,
@@ -46,7 +47,7 @@ impl Stream {
         }
     }
 
-    /// Adds a command; an `S`, `O` or `K` that may be accepted gets its `D`, a refused call sometimes or always.
+    /// Adds a command; an `S`, `O`, `K` or `V` that may be accepted gets its `D`, a refused call sometimes or always.
     pub fn add(&mut self, command: Command) {
         self.bytes.extend(stream::bytes(&command));
         let lines = reference::step(&mut self.spaces, &command);
@@ -61,7 +62,7 @@ impl Stream {
         self.unsure |= number == 11 && self.may_fit();
         if with_choice && number == 0 {
             // At a lower percentage than it was left at, another program's flow may not fit.
-            self.unsure |= matches!(command, Command::Switch { .. }) && self.spaces.percentage < self.fits_at;
+            self.unsure |= !matches!(command, Command::Screen { .. }) && self.spaces.percentage < self.fits_at;
             self.fits_at = self.spaces.percentage;
         }
         let may_be_accepted = with_choice && (number == 0 || self.unsure);
@@ -167,6 +168,11 @@ impl Stream {
 
     pub fn back(&mut self, count: usize, branch: usize) {
         self.switch(Way::Back, count, branch);
+    }
+
+    pub fn load(&mut self, count: usize, shift: Shift) {
+        let (flow, table) = self.room(count);
+        self.add(Command::Load { flow, table, shift });
     }
 
     /// A branch of the book as it stands that is in service, or one that is out of it.

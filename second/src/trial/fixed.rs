@@ -1,14 +1,15 @@
 //! What the papers fix of a trial's output: everything but `?` where a flow number or a table byte is left open.
 //!
-//! Open after an accepted screen or outage: the flow of every branch in service, and the reroute of every carrying
-//! one. After an outage from a table not known to be true at its percentage also every byte of a record whose place on
-//! the shortlist may hang on the flow. A return opens no flow, and of a record only the reroute of one that it writes
-//! anew and that carries. Where an answer itself hangs on an open flow, the rest is left out.
+//! Open after an accepted screen, outage or move of load: the flow of every branch in service, and the reroute of every
+//! carrying one. After an outage or a move from a table not known to be true at its percentage also every byte of a record
+//! whose place on the shortlist may hang on the flow. A return and a move of 0 kW open no flow, and of a record only the
+//! reroute of one that they write anew and that carries. Where an answer itself hangs on an open flow, the rest is left out.
 
 use crate::definitions::answer::Answer;
 use crate::definitions::book;
 use crate::definitions::cuts;
 use crate::definitions::limits::Limits;
+use crate::definitions::load::{self, Shift};
 use crate::definitions::network::{Line, Network, Verdict};
 use crate::definitions::percentage::Percentage;
 use crate::definitions::record::{self, SIZE};
@@ -25,6 +26,16 @@ struct Fixed {
     fits_at: Option<Percentage>,
     /// The percentage at which the table is known to be true.
     true_at: Option<Percentage>,
+}
+
+/// A changed network without an excess; else 12. A return leaves none where a flow fitted before it.
+fn not_overloaded(changed: Network) -> Result<Network, Answer> {
+    let excess = cuts::base_excess(&changed);
+    if excess.amount > 0 {
+        Err(Answer::overloaded(excess))
+    } else {
+        Ok(changed)
+    }
 }
 
 /// The fixed part of the output for a stream.
@@ -55,6 +66,7 @@ impl Fixed {
                 let answer = self.switch(*way, *flow, *table, *branch)?;
                 Some(vec![format!("{} {answer}", command.call()?)])
             }
+            Command::Load { flow, table, shift } => Some(vec![format!("move {}", self.move_load(*flow, *table, *shift)?)]),
             Command::Dump => Some(self.dump()),
             other => Some(self.plain(other)),
         }
@@ -119,15 +131,11 @@ impl Fixed {
         network.lines.iter().enumerate().any(wrong) || cuts::base_excess(network).amount > 0
     }
 
-    /// The network lent to a switching call, or its refusal with 1 to 11 or 17; none where 11 hangs on an open flow.
-    fn fitting(&self, way: Way, lent: &Lent, branch: usize) -> Option<Result<Network, Answer>> {
-        let network = match switching::switchable(way, lent, branch) {
-            Ok(network) => network,
-            Err(answer) => return Some(Err(answer)),
-        };
+    /// The network lent to a call that looks at the flow next, or its refusal with 11; none where that hangs on an open flow.
+    fn fitting(&self, lent: &Lent, network: Network) -> Option<Result<Network, Answer>> {
         let open = (0..network.lines.len()).any(|k| self.open_flow[k]);
         if !open {
-            return Some(switching::fitting(way, lent, branch));
+            return Some(switching::fitted(network, lent));
         }
         // A flow that fits at a percentage fits at every larger one, whose limits are no less.
         if self.fits_at.is_some_and(|least| least <= lent.percentage) {
@@ -137,25 +145,47 @@ impl Fixed {
     }
 
     fn switch(&mut self, way: Way, flow: usize, table: usize, branch: usize) -> Option<Answer> {
-        let network = match self.fitting(way, &self.spaces.lent(flow, table), branch)? {
-            Ok(network) => network,
+        let lent = self.spaces.lent(flow, table);
+        let network = match switching::switchable(way, &lent, branch).map(|network| self.fitting(&lent, network)) {
             Err(answer) => return Some(answer),
+            Ok(fitting) => fitting?,
         };
-        let changed = network.with_status(branch, way.serves());
-        let excess = cuts::base_excess(&changed);
-        if way == Way::Out && excess.amount > 0 {
-            return Some(Answer::overloaded(excess));
-        }
-        let book = book::with_status(self.spaces.bytes(), branch, way.serves());
-        self.spaces.book[..book.len()].copy_from_slice(&book);
-        // A table true at another percentage needn't be true at this one.
-        self.true_at = self.true_at.filter(|at| *at == self.spaces.percentage);
+        let changed = match network.and_then(|network| not_overloaded(network.with_status(branch, way.serves()))) {
+            Err(answer) => return Some(answer),
+            Ok(changed) => changed,
+        };
+        self.left(&book::with_status(self.spaces.bytes(), branch, way.serves()));
         match way {
             Way::Out => self.taken_out(&changed, branch),
             Way::Back => self.brought_back(&changed, branch),
         }
-        self.fits_at = Some(self.spaces.percentage);
         Some(Answer::ACCEPTED)
+    }
+
+    fn move_load(&mut self, flow: usize, table: usize, shift: Shift) -> Option<Answer> {
+        let lent = self.spaces.lent(flow, table);
+        let network = match load::movable(&lent, shift).map(|network| self.fitting(&lent, network)) {
+            Err(answer) => return Some(answer),
+            Ok(fitting) => fitting?,
+        };
+        let changed = match network.and_then(|network| not_overloaded(shift.changed(&network))) {
+            Err(answer) => return Some(answer),
+            Ok(changed) => changed,
+        };
+        self.left(&shift.book(self.spaces.bytes()));
+        if shift.kw > 0 {
+            self.open_flows(&changed);
+        }
+        self.shortlisted(&changed, shift.kw > 0);
+        Some(Answer::ACCEPTED)
+    }
+
+    /// An accepted call left this book, and a flow that fits it at the percentage in force.
+    fn left(&mut self, book: &[u8]) {
+        self.spaces.leave(book, &[], &[]);
+        // A table true at another percentage needn't be true at this one.
+        self.true_at = self.true_at.filter(|at| *at == self.spaces.percentage);
+        self.fits_at = Some(self.spaces.percentage);
     }
 
     /// Whether a record's byte 0 is known, and is not 1.
@@ -167,10 +197,16 @@ impl Fixed {
         if self.open_flow[branch] || self.spaces.flow[branch] != 0 {
             self.open_flows(changed);
         }
+        self.shortlisted(changed, true);
+    }
+
+    /// Records as the shortlist leaves them, where some branch is touched or none is.
+    fn shortlisted(&mut self, changed: &Network, touched: bool) {
         for (k, verdict) in screen::verdicts(changed).into_iter().enumerate() {
-            if !changed.lines[k].served || self.surely_not_1(k) || self.true_at.is_some() {
+            let kept = !touched && !self.open_table[SIZE * k] && self.spaces.table[SIZE * k] == 1;
+            if !changed.lines[k].served || self.surely_not_1(k) || self.true_at.is_some() && !kept {
                 self.set_record(k, verdict, changed.lines.len());
-            } else {
+            } else if !kept {
                 self.open_table[SIZE * k..SIZE * (k + 1)].fill(true);
             }
         }

@@ -4,6 +4,7 @@ use crate::definitions::answer::Answer;
 use crate::definitions::book;
 use crate::definitions::comeback;
 use crate::definitions::cuts;
+use crate::definitions::load::{self, Shift};
 use crate::definitions::outage;
 use crate::definitions::screen;
 use crate::definitions::switching::Way;
@@ -52,6 +53,7 @@ pub fn step(spaces: &mut Spaces, command: &Command) -> Vec<String> {
     let answer = match command {
         Command::Screen { flow, table } => screen_once(spaces, *flow, *table),
         Command::Switch { way, flow, table, branch } => switch(spaces, *way, *flow, *table, *branch),
+        Command::Load { flow, table, shift } => move_load(spaces, *flow, *table, *shift),
         Command::Dump => return spaces.dump(),
         other => return spaces.run(other).1,
     };
@@ -65,8 +67,7 @@ fn screen_once(spaces: &mut Spaces, flow: usize, table: usize) -> Answer {
     };
     let found = cuts::fitting_flow(&network).expect("the base excess is 0");
     let records = screen::own_table(&network, &found);
-    spaces.flow[..found.len()].copy_from_slice(&found);
-    spaces.table[..records.len()].copy_from_slice(&records);
+    spaces.leave(&[], &found, &records);
     Answer::ACCEPTED
 }
 
@@ -81,8 +82,17 @@ fn switch(spaces: &mut Spaces, way: Way, flow: usize, table: usize, branch: usiz
         Err(answer) => return answer,
     };
     let book = book::with_status(lent.book, branch, way.serves());
-    spaces.book[..book.len()].copy_from_slice(&book);
-    spaces.flow[..after.len()].copy_from_slice(&after);
-    spaces.table[..records.len()].copy_from_slice(&records);
+    spaces.leave(&book, &after, &records);
+    Answer::ACCEPTED
+}
+
+fn move_load(spaces: &mut Spaces, flow: usize, table: usize, shift: Shift) -> Answer {
+    let lent = spaces.lent(flow, table);
+    let (after, records) = match load::allowed(&lent, shift) {
+        Ok(network) => load::own_result(&network, &lent, shift),
+        Err(answer) => return answer,
+    };
+    let book = shift.book(lent.book);
+    spaces.leave(&book, &after, &records);
     Answer::ACCEPTED
 }

@@ -49,6 +49,13 @@ impl Spaces {
         Lent { percentage: self.percentage, book: self.bytes(), flow: &self.flow[..flow], table: &self.table[..table] }
     }
 
+    /// Puts the book, the flow and the table that an accepted call left in their places.
+    pub fn leave(&mut self, book: &[u8], flow: &[i64], table: &[u8]) {
+        self.book[..book.len()].copy_from_slice(book);
+        self.flow[..flow.len()].copy_from_slice(flow);
+        self.table[..table.len()].copy_from_slice(table);
+    }
+
     /// Whether book, flow and table are the same.
     pub fn same_lent(&self, other: &Spaces) -> bool {
         self.bytes() == other.bytes() && self.flow == other.flow && self.table == other.table
@@ -65,7 +72,8 @@ impl Spaces {
         self.shelf.fill(170);
     }
 
-    /// Does a command whose whole effect the papers fix and answers its lines; not for `S`, `O`, `K` and `D`.
+    /// Does a command whose whole effect the papers fix and answers its lines; not for `S`, `O`, `K`, `V` and
+    /// `D`.
     pub fn run(&mut self, command: &Command) -> (Option<Answer>, Vec<String>) {
         match command {
             Command::Spoil => self.spoil(),
@@ -82,7 +90,9 @@ impl Spaces {
             Command::Write { .. } => return self.write(command),
             Command::Move { form, room } => return self.move_book(*form, *room),
             Command::Meters { lists, lent, supply } => return self.meters(lists, *lent, *supply),
-            Command::Screen { .. } | Command::Switch { .. } | Command::Dump => unreachable!("left to the caller"),
+            Command::Screen { .. } | Command::Switch { .. } | Command::Load { .. } | Command::Dump => {
+                unreachable!("left to the caller")
+            }
         }
         (None, Vec::new())
     }

@@ -1,6 +1,7 @@
 //! The commands of a trial stream: read from bytes and turned into bytes.
 
 use crate::definitions::form::Form;
+use crate::definitions::load::Shift;
 use crate::definitions::percentage::Percentage;
 use crate::definitions::switching::Way;
 
@@ -27,6 +28,12 @@ pub enum Command {
         flow: usize,
         table: usize,
         branch: usize,
+    },
+    /// A move of load, which is no move of a book.
+    Load {
+        flow: usize,
+        table: usize,
+        shift: Shift,
     },
     Read {
         injections: usize,
@@ -61,6 +68,7 @@ impl Command {
         match self {
             Command::Screen { .. } => Some("screen"),
             Command::Switch { way, .. } => Some(way.name()),
+            Command::Load { .. } => Some("move"),
             Command::Read { .. } => Some("read"),
             Command::Write { .. } => Some("write"),
             Command::Move { .. } => Some("moved"),
@@ -69,9 +77,10 @@ impl Command {
         }
     }
 
-    /// Whether it makes a call that rests on a limit, and so takes the percentage: a screen, an outage, a return.
+    /// Whether it makes a call that rests on a limit, and so takes the percentage: a screen, an outage, a return, a
+    /// move of load.
     pub fn takes_percentage(&self) -> bool {
-        matches!(self, Command::Screen { .. } | Command::Switch { .. })
+        matches!(self, Command::Screen { .. } | Command::Switch { .. } | Command::Load { .. })
     }
 
     /// The number of its answer among the lines that it printed.
@@ -144,6 +153,7 @@ impl Commands<'_> {
             b'S' => Command::Screen { flow: self.two(FLOWS)?, table: self.two(TABLE)? },
             b'O' => self.switch(Way::Out)?,
             b'K' => self.switch(Way::Back)?,
+            b'V' => Command::Load { flow: self.two(FLOWS)?, table: self.two(TABLE)?, shift: self.shift()? },
             b'R' => Command::Read { injections: self.two(INJECTIONS)?, branches: self.two(NUMBERS)? },
             b'W' => self.write(Form::Old)?,
             b'X' => self.write(Form::New)?,
@@ -157,6 +167,10 @@ impl Commands<'_> {
 
     fn switch(&mut self, way: Way) -> Result<Command, Bad> {
         Ok(Command::Switch { way, flow: self.two(FLOWS)?, table: self.two(TABLE)?, branch: self.two(65_535)? })
+    }
+
+    fn shift(&mut self) -> Result<Shift, Bad> {
+        Ok(Shift { up: self.two(65_535)?, down: self.two(65_535)?, kw: self.number(4)? })
     }
 
     fn write(&mut self, form: Form) -> Result<Command, Bad> {
@@ -206,6 +220,9 @@ pub fn bytes(command: &Command) -> Vec<u8> {
         Command::Switch { way, flow, table, branch } => {
             let letter = if *way == Way::Out { b"O" } else { b"K" };
             [&letter[..], &two(flow), &two(table), &two(branch)].concat()
+        }
+        Command::Load { flow, table, shift } => {
+            [&b"V"[..], [flow, table, &shift.up, &shift.down].map(two).as_flattened(), &shift.kw.to_be_bytes()].concat()
         }
         Command::Read { injections, branches } => [&b"R"[..], &two(injections), &two(branches)].concat(),
         Command::Write { form, buses, count, factor, injections, branches, room } => {

@@ -1,6 +1,6 @@
 -- `touch` marks the branches whose flow changed and the branch taken out.
 use borrow.Author.Needs.{needs}
-use Rattle.outage.proofs.Shortlisting.{marked}
+use Rattle.outage.proofs.Touching.{marked}
 use Rattle.outage.proofs.touch.Statement.{statement}
 use Rattle.outage.proofs.touch.Tie as tie
 

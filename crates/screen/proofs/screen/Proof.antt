@@ -23,7 +23,7 @@ use Rattle.state.specs.declared.Plan.{Plan}
 use Rattle.state.proofs.Checked.{Passed, passed}
 use Rattle.state.proofs.Opening.{plannable, held, held-live, gain-is, load-is}
 use Rattle.state.proofs.Raising.{overload-normal, raisable, raised-state}
-use Rattle.state.proofs.Base.{basic, overload, fillable, state-left}
+use Rattle.state.proofs.Base.{Answered, basic, based-answer, overload, fillable, state-left}
 use Rattle.state.proofs.Status.{branches-of}
 use Rattle.screen.proofs.ScreenEnd.{by-check, by-overload, by-table}
 use Rattle.screen.proofs.screen.Statement.{statement}
@@ -92,6 +92,14 @@ table-room c = omega (arith, hold c .branches-are, branches-of (rate (told c)) (
 group-long : (c : tie.After-base-flow) → length (c .base-flow .result .group) ≡ 16
 group-long c = search needs
 
+-- The base flow's word on the case.
+word : (c : tie.After-base-flow)
+    → Answered (normal (caseIn (rate (told (prepared (c .before)))) (bytes (told (prepared (c .before)))))) (made (prepared (c .before)) .wires)
+    (made (prepared (c .before)) .live) (c .base-flow .result)
+word c =
+    let at = prepared (c .before) in
+    based-answer (normal (caseIn (rate (told at)) (bytes (told at)))) refl _ _ _ _ _ (hold at) (gains at) (loads at) _ (c .base-flow .ensures)
+
 -- The flow that is left, and the rows as its state.
 left : (c : tie.After-fill-flow)
     → State (normal (caseIn (rate (told (prepared (based (c .before .before) .before))))
@@ -101,7 +109,7 @@ left : (c : tie.After-fill-flow)
 left c =
     let b = based (c .before .before) in
     let at = prepared (b .before) in
-    state-left (normal (caseIn (rate (told at)) (bytes (told at)))) refl _ _ _ _ _ (hold at) (gains at) (loads at) _ (b .base-flow .ensures) _ _
+    state-left (normal (caseIn (rate (told at)) (bytes (told at)))) _ _ _ (hold at) _ (word b) _ _
     (c .before .before .before .before .before .enum-told2 .given .1) (c .fill-flow .ensures)
 
 -- The same rows under the limits that a loss is judged by.
@@ -152,7 +160,7 @@ returns-2 c =
     let at = prepared (b .before) in
     by-overload _ _ _ _ (ok (told at))
     (overload-normal (caseIn (rate (told at)) (bytes (told at))) _
-    (overload (normal (caseIn (rate (told at)) (bytes (told at)))) refl _ _ _ _ _ (hold at) (gains at) (loads at) _ (b .base-flow .ensures) _
+    (overload (normal (caseIn (rate (told at)) (bytes (told at)))) _ _ _ (hold at) _ (word b) _
     (c .before .before .verdict .given .1) (group-long b)))
 
 enum-told-2 : tie.Need-enum-told-2
@@ -162,7 +170,7 @@ fill-flow-requires : tie.Need-fill-flow-requires
 fill-flow-requires c κs =
     let b = based (c .before) in
     let at = prepared (b .before) in
-    fillable (normal (caseIn (rate (told at)) (bytes (told at)))) refl _ _ _ _ _ (hold at) (gains at) (loads at) _ (b .base-flow .ensures) _
+    fillable (normal (caseIn (rate (told at)) (bytes (told at)))) _ _ _ (hold at) _ (word b) _
     (flow-room at)
 
 raise-requires : tie.Need-raise-requires

@@ -2,9 +2,9 @@
 use borrow.Author.Needs.{needs}
 use mathlib.Core.Path.{sym, _∙_}
 use borrow.Author.Tests.{not-true, not-false}
-use Rattle.outage.proofs.Shortlisting.{by-service, by-touch, by-record}
-use Rattle.outage.proofs.is_listed.Statement.{statement}
-use Rattle.outage.proofs.is_listed.Tie as tie
+use Rattle.shortlist.proofs.Shortlisting.{by-service, by-touch, by-record}
+use Rattle.shortlist.proofs.is_listed.Statement.{statement}
+use Rattle.shortlist.proofs.is_listed.Tie as tie
 
 returns : tie.Need-returns
 returns c = by-service _ _ _ _ (not-true _ (c .if1 .taken))

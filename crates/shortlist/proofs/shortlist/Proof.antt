@@ -4,10 +4,10 @@ use native.Mathlib.Omega.{arith}
 use mathlib.Core.Logic.{inl, inr}
 use Prim.Native.Nat.{_-_}
 use Rattle.state.proofs.Noting.{Noting, noting-none, noting-set, noting-skip, noting-all}
-use Rattle.outage.specs.Inside.{listedAt}
-use Rattle.outage.proofs.Shortlisting.{tested}
-use Rattle.outage.proofs.shortlist.Statement.{statement}
-use Rattle.outage.proofs.shortlist.Tie as tie
+use Rattle.shortlist.specs.Inside.{listedAt}
+use Rattle.shortlist.proofs.Shortlisting.{tested}
+use Rattle.shortlist.proofs.shortlist.Statement.{statement}
+use Rattle.shortlist.proofs.shortlist.Tie as tie
 
 abbrev Inv-loop : tie.InvT-loop
 Inv-loop table branches touched served row₀ k₀ row k = Noting branches table (listedAt served touched table) row k

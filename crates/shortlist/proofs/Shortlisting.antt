@@ -2,48 +2,23 @@
 use mathlib.Core.Path.{_≡_, refl, sym, ap, _∙_}
 use mathlib.Core.Bool.{Bool, true, false, not, _&&_, _||_, true≢false, false≢true}
 use mathlib.Core.List.{List}
-use mathlib.Core.Logic.{_⊎_, inl, inr}
 use Prim.Native.Nat.{ℕ, _≤_, _<_}
 use native.Mathlib.Omega.{arith}
-use native.Mathlib.Decide.{ℕ-discrete}
 use borrow.Author.Tests.{eq-eqb, ne-eqb}
 use lib.Dec.{eqb}
 use lib.IntN.{ℤ}
 use lib.ListN.{length, getD}
-use Rattle.rows.specs.Row.{nth, some}
-use Rattle.rows.proofs.Row.{some-at, some-never, or-true, and-false, both-true}
+use Rattle.rows.specs.Row.{some}
+use Rattle.rows.proofs.Row.{some-at, some-never, or-true, both-true}
 use Rattle.rows.specs.Bit.{has}
-use Rattle.bits.specs.Field.{setBit}
 use Rattle.verdict.specs.Case.{Case, on, Fits}
 use Rattle.verdict.specs.Record.{recordAt, verdictIn, names}
 use Rattle.verdict.specs.Update.{Shortlisted, not-served, not-carrying, is-touched, names-touched, Updated}
 use Rattle.state.specs.Call.{lent}
 use Rattle.record.specs.Inside.{listed}
-use Rattle.state.specs.Inside.{Differs, Changed, Listing, Rewriting, judgedOf}
+use Rattle.state.specs.Inside.{Listing, Rewriting}
 use Rattle.state.proofs.Rewriting.{renewed}
-use Rattle.state.proofs.Noting.{bit-noted, bit-left}
-use Rattle.outage.specs.Inside.{listedIf, listedAt, Marked}
-use Rattle.outage.specs.Promise.{Judges}
-
--- ---- The bits of touched branches.
-pub marked : {n : ℕ} {a b : List ℕ} {k : ℕ} {row : List ℕ} → n ≤ 256 → k < n → Changed n a b k row → Marked n a b k (setBit row k 1)
-marked {n} {a} {b} {k} {row} few u c =
-    record {
-      itself = here;
-      differing = λ j v d. differ j v d (ℕ-discrete j k);
-      only = λ j q. one j q (ℕ-discrete j k);
-    }
-  where
-    here : has (setBit row k 1) k ≡ true
-    here = bit-noted row k (c .long) (omega arith)
-
-    differ : (j : ℕ) → j < n → (nth a j ≡ nth b j → ⊥) → Dec (j ≡ k) → has (setBit row k 1) j ≡ true
-    differ j v d (yes e) = rw e (bit-noted row k (c .long) (omega arith))
-    differ j v d (no m) = bit-left row k j m ∙ c .names j v m d
-
-    one : (j : ℕ) → has (setBit row k 1) j ≡ true → Dec (j ≡ k) → (j ≡ k) ⊎ Differs n a b k j
-    one j q (yes e) = inl e
-    one j q (no m) = inr (c .named j (sym (bit-left row k j m) ∙ q))
+use Rattle.shortlist.specs.Inside.{listedIf, listedAt}
 
 -- ---- The test of one record.
 module _ (serving : Bool) (touched rec : List ℕ) (k : ℕ) where
@@ -122,16 +97,3 @@ module _ (C : Case) (served : List Bool) (touched : List ℕ) (T : ℕ → Type 
         → length flow′ ≡ length flow → ((k : ℕ) → C .branches ≤ k → on flow′ k ≡ on flow k) → Updated C T (lent bs flow table) (lent bs′ flow′ table′)
     updated fits r =
         renewed C (Shortlisted C table T) fits r (λ k u h. shown .bit k u ∙ shortlisted-listed k u h) (λ k u h. shown .bit k u ∙ unlisted k u h)
-
-    -- The losses counted are those of shortlisted records in service.
-    pub judges : {n : ℕ} → n ≡ judgedOf served bits (C .branches) → Judges C T table n
-    judges e = record {
-      judged = λ k. has bits k && getD served k false;
-      if-listed = λ k u h s. rw (shown .bit k u, shortlisted-listed k u h, served-is k, s) refl;
-      if-not = λ k u h. off k u h (C .served k) refl;
-      count = e;
-    }
-      where
-        off : (k : ℕ) → k < C .branches → (Shortlisted C table T k → C .served k ≡ true → ⊥) → (s : Bool) → C .served k ≡ s → (has bits k && getD served k false) ≡ false
-        off k u h true e = rw (shown .bit k u, unlisted k u (λ l. h l e)) refl
-        off k u h false e = rw (served-is k, e) (and-false (has bits k))

@@ -1,0 +1,4 @@
+pub mod Injections
+pub mod Checking
+pub mod BookShifted
+pub mod TransferEnds
