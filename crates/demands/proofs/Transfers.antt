@@ -15,7 +15,7 @@ use Rattle.rows.specs.Bit.{bitAt}
 use Rattle.answer.specs.Answer.{numberOf, accepted}
 use Rattle.answer.specs.declared.Outcome.the-variants.{Accepted}
 use Rattle.answer.specs.declared.Answer.{Answer}
-use Rattle.quantity.proofs.Parts.{by-parts, minus-parts, size-parts}
+use Rattle.quantity.proofs.Parts.{by-parts, apart-at-most}
 use Rattle.layout.specs.Layout.{busesIn, branchesIn}
 use Rattle.layout.proofs.InjectionsChanged.{BesideBus, injections-long, injections-elsewhere}
 use Rattle.verdict.specs.Case.{Case, shifted, on}
@@ -37,7 +37,7 @@ use Rattle.demands.proofs.Demand3.{stands-passed, run-stands, run-fits,
 
 -- Two numbers that are not apart are the same.
 pub same-of : (x y : ℤ) → natAbs (x -ℤ y) ≤ 0 → x ≡ y
-same-of x y h = by-parts x y (omega (arith, size-parts (x -ℤ y), minus-parts x y))
+same-of x y h = let w = apart-at-most x y 0 .0 h in by-parts x y (omega (arith, w .0, w .1))
 
 -- ---- An accepted move from any table.
 module _ {percent up down kw : ℕ} {before after : Lent} {r : Answer} (e : TransferEnds percent up down kw before after r) (a : r ≡ accepted) where

@@ -7,7 +7,7 @@ use native.Mathlib.Omega.{arith}
 use lib.IntN.{ℤ, natAbs, _-ℤ_}
 use Rattle.answer.specs.Answer.{accepted}
 use Rattle.answer.specs.declared.Answer.{Answer}
-use Rattle.quantity.proofs.Parts.{one-side, minus-parts, size-parts}
+use Rattle.quantity.proofs.Parts.{apart-at-most}
 use Rattle.verdict.specs.Case.{Case, shifted, on}
 use Rattle.verdict.specs.Record.{TrueTable}
 use Rattle.verdict.specs.Update.{Lent, FlowChanged, Shortlisted}
@@ -92,13 +92,7 @@ module _ {percent up down kw : ℕ} {before one two : Lent} {r s : Answer} where
       near (on (one .flow) j) (on (two .flow) j) (on (before .flow) j) (d .moved .slight j l) (d′ .moved .slight j l)
     where
       near : (f g h : ℤ) → natAbs (f -ℤ h) ≤ kw → natAbs (g -ℤ h) ≤ kw → natAbs (f -ℤ g) ≤ kw + kw
-      near f g h p q = omega (
-        arith,
-        size-parts (f -ℤ h),
-        size-parts (g -ℤ h),
-        size-parts (f -ℤ g),
-        one-side (f -ℤ g),
-        minus-parts f h,
-        minus-parts g h,
-        minus-parts f g,
-      )
+      near f g h p q =
+          let v = apart-at-most f h kw .0 p in
+          let w = apart-at-most g h kw .0 q in
+          apart-at-most f g (kw + kw) .1 (omega (arith, v .0, w .1), omega (arith, v .1, w .0))

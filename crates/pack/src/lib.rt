@@ -1,13 +1,11 @@
 // The packed book written: the tables beside it are checked, and packed.
 ghost use mathlib.Core.Path.{_≡_};
 ghost use Prim.Native.Nat.{_+_, _*_, _<_, _≤_};
+ghost use lib.IntN.{pos, _-ℤ_};
 ghost use lib.ListN.{length, replicate};
 ghost use Rattle.answer.specs.declared.Place.the-variants.{Nowhere};
 ghost use Rattle.answer.specs.declared.Outcome.the-variants.{Accepted};
-ghost use Rattle.rows.specs.Sum.{pick};
-ghost use Rattle.quantity.specs.Signed.{isNeg};
 ghost use Rattle.bits.specs.Fields.{putItems};
-ghost use Rattle.layout.specs.Book.{size};
 ghost use Rattle.layout.specs.Fault.{firstFault};
 ghost use Rattle.layout.specs.Form.{branchWidths, fields, branchValues};
 ghost use Rattle.layout.specs.Layout.{busWidths, busStart, branchStart, bytesFor, busValues, encode};
@@ -24,27 +22,21 @@ use layout::Head;
 use layout::Sums;
 use quantity::Kva;
 
-fn sign_of(x: i32) -> u32
-    ensures { λ r. ⌜ r ≡ pick (isNeg x) 1 ⌝ }
+// A bus at which so much enters and so much leaves.
+pub fn net_bus(enters: u32, leaves: u32) -> Bus
+    ensures { λ r. ⌜ r ≡ busFrom (busValues (pos enters -ℤ pos leaves)) ⌝ }
 {
-    if 0 < quantity::below(x) { 1 } else { 0 }
-}
-
-// An injection's kW without its sign.
-fn size_of(x: i32) -> u32
-    ensures { λ r. ⌜ r ≡ size x ⌝ }
-{
-    quantity::above(x) + quantity::below(x)
+    Bus {
+        sign: quantity::sign_of(enters, leaves),
+        size: quantity::apart(enters, leaves),
+    }
 }
 
 // The sign and size of an injection.
 fn bus_of(x: i32) -> Bus
     ensures { λ r. ⌜ r ≡ busFrom (busValues x) ⌝ }
 {
-    Bus {
-        sign: sign_of(x),
-        size: size_of(x),
-    }
+    net_bus(quantity::above(x), quantity::below(x))
 }
 
 fn first_entry_fault(injections: &[i32], buses: usize) -> Place

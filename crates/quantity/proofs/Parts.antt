@@ -9,7 +9,7 @@ use lib.Dec.{ltb, leb→le, le→leb}
 use lib.IntN.{ℤ, pos, negsuc, negℤ, natAbs, subℕ, _+ℤ_, _-ℤ_}
 use lib.Signed.{_≤ℤ_}
 use Rattle.rows.specs.Sum.{Group, pick, over, pickℤ, sum}
-use Rattle.quantity.specs.Signed.{posPart, negPart, ofSize}
+use Rattle.quantity.specs.Signed.{posPart, negPart, isNeg, ofSize}
 
 -- One of the two parts is 0, in a form that arithmetic reads.
 pub one-side : (z : ℤ) → min (posPart z) (negPart z) ≡ 0
@@ -94,3 +94,31 @@ sum-same (suc n) S h g e = rw (sum-same n S h g (λ i l. e i (omega arith)), e n
 pub at-most : (x : ℤ) (v : ℕ) → (x ≤ℤ pos v) ↔ (posPart x ≤ negPart x + v)
 at-most (pos a) v = (λ e. omega (arith, leb→le a v (e .le)), λ e. record { le = le→leb a v (omega arith) })
 at-most (negsuc a) v = (λ e. omega arith, λ e. record { le = tt })
+
+-- ---- A difference: its sign, only below 0; its size; and when it is at most n.
+pub less-sign : (a b : ℕ) → a < b → 1 ≡ pick (isNeg (pos a -ℤ pos b)) 1
+less-sign a b l = signed (pos a -ℤ pos b) (omega (arith, minus-parts (pos a) (pos b)))
+  where
+    signed : (z : ℤ) → 0 < negPart z → 1 ≡ pick (isNeg z) 1
+    signed (pos n) h = absurd (omega arith)
+    signed (negsuc n) h = refl
+
+pub more-sign : (a b : ℕ) → b ≤ a → 0 ≡ pick (isNeg (pos a -ℤ pos b)) 1
+more-sign a b l = unsigned (pos a -ℤ pos b) (omega (arith, minus-parts (pos a) (pos b), one-side (pos a -ℤ pos b)))
+  where
+    unsigned : (z : ℤ) → negPart z ≡ 0 → 0 ≡ pick (isNeg z) 1
+    unsigned (pos n) h = refl
+    unsigned (negsuc n) h = absurd (omega arith)
+
+pub size-apart : (a b : ℕ) → (a - b) + (b - a) ≡ posPart (pos a -ℤ pos b) + negPart (pos a -ℤ pos b)
+size-apart a b = omega (arith, minus-parts (pos a) (pos b), one-side (pos a -ℤ pos b))
+
+pub parts-difference : (z : ℤ) → pos (posPart z) -ℤ pos (negPart z) ≡ z
+parts-difference z = by-parts _ _ (omega (arith, minus-parts (pos (posPart z)) (pos (negPart z))))
+
+pub apart-at-most : (x y : ℤ) (n : ℕ)
+    → (natAbs (x -ℤ y) ≤ n) ↔ ((posPart x + negPart y ≤ negPart x + posPart y + n) × (negPart x + posPart y ≤ posPart x + negPart y + n))
+apart-at-most x y n = (
+  λ h. (omega (arith, size-parts (x -ℤ y), minus-parts x y), omega (arith, size-parts (x -ℤ y), minus-parts x y)),
+  λ h. omega (arith, size-parts (x -ℤ y), one-side (x -ℤ y), minus-parts x y, h .0, h .1),
+)

@@ -1,8 +1,9 @@
 // The quantities of the book and the meters: ratings in kVA, power in kW, signed numbers by their parts, registers.
 ghost use mathlib.Core.Path.{_≡_};
-ghost use Prim.Native.Nat.{_≤_};
+ghost use Prim.Native.Nat.{_+_, _-_, _≤_};
 ghost use lib.IntN.{pos, _-ℤ_};
-ghost use Rattle.quantity.specs.Signed.{posPart, negPart, ofSize};
+ghost use Rattle.rows.specs.Sum.{pick};
+ghost use Rattle.quantity.specs.Signed.{posPart, negPart, isNeg, ofSize};
 ghost use Rattle.quantity.specs.Rating.{limitOf, percentOut};
 ghost use Rattle.quantity.specs.Register.{advance};
 
@@ -67,6 +68,20 @@ pub fn difference(more: u32, fewer: u32) -> i32
     } else {
         signed(false, more - fewer)
     }
+}
+
+// 1 where more leaves than enters: a zero has no sign.
+pub fn sign_of(enters: u32, leaves: u32) -> u32
+    ensures { λ r. ⌜ r ≡ pick (isNeg (pos enters -ℤ pos leaves)) 1 ⌝ }
+{
+    if enters < leaves { 1 } else { 0 }
+}
+
+// How far two numbers are apart.
+pub fn apart(x: u32, y: u32) -> u32
+    ensures { λ r. ⌜ r ≡ (x - y) + (y - x) ⌝ }
+{
+    if x < y { y - x } else { x - y }
 }
 
 // How far a register went on from one reading to the next, carried past its top.

@@ -1,7 +1,7 @@
 // What every call on a lent book shares: the checks before it, the rows of its case, and records written from them.
 // What is public here serves the calls alone, which meet what it requires.
 ghost use mathlib.Core.Path.{_≡_};
-ghost use Prim.Native.Nat.{ℕ, _+_, _-_, _*_, _<_, _≤_};
+ghost use Prim.Native.Nat.{ℕ, _+_, _*_, _<_, _≤_};
 ghost use lib.IntN.{ℤ, pos, _-ℤ_};
 ghost use lib.ListN.{length};
 ghost use Rattle.rows.specs.Row.{nth, headed};
@@ -186,13 +186,6 @@ pub fn changed(branches: usize, before: [u32; 256], after: [u32; 256], but: usiz
     row
 }
 
-// How far two numbers are apart.
-pub fn apart(x: u32, y: u32) -> u32
-    ensures { λ r. ⌜ r ≡ (x - y) + (y - x) ⌝ }
-{
-    if x < y { y - x } else { x - y }
-}
-
 // The verdict of a branch k that is short by its whole flow. If no other branch in service leaves the group, its loss would island; only otherwise a
 // search decides, over branches in service whatever their limits.
 fn short_number(
@@ -248,7 +241,7 @@ pub fn put_verdict(
     let group = judged.group;
     // If its loss would island, it is short by its whole flow.
     let mut number: u8 = 2;
-    if excess == apart(live[k], latent.ahead[k]) {
+    if excess == quantity::apart(live[k], latent.ahead[k]) {
         number = short_number(wires, served, live, k, group);
     }
     record::write(rec, number, excess, group, [0u8; 32]);

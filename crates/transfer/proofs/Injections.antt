@@ -2,15 +2,14 @@
 use mathlib.Core.Path.{_≡_, refl, sym, _∙_}
 use mathlib.Core.Bool.{true, false}
 use mathlib.Core.List.{List}
-use Prim.Native.Nat.{ℕ, _+_, _-_, _≤_, _<_}
+use Prim.Native.Nat.{ℕ, _+_, _≤_, _<_}
 use native.Mathlib.Omega.{arith}
 use native.Mathlib.Decide.{decLt}
 use borrow.Author.Tests.{lt-ltb, le-ltb}
 use lib.Dec.{ltb}
-use lib.IntN.{ℤ, pos, negsuc, _+ℤ_, _-ℤ_}
+use lib.IntN.{ℤ, pos, _+ℤ_, _-ℤ_}
 use Rattle.answer.specs.declared.Outcome.the-variants.{Accepted}
-use Rattle.rows.specs.Sum.{pick}
-use Rattle.quantity.specs.Signed.{posPart, negPart, isNeg}
+use Rattle.quantity.specs.Signed.{posPart, negPart}
 use Rattle.quantity.proofs.Parts.{by-parts, one-side, add-parts, minus-parts}
 use Rattle.layout.specs.Book.{size}
 use Rattle.layout.specs.Layout.{busesIn, injectionAt}
@@ -50,24 +49,6 @@ risen-is x kw = by-parts _ _ (omega (arith, minus-parts (pos (posPart x + kw)) (
 
 pub fallen-is : (x : ℤ) (kw : ℕ) → pos (posPart x) -ℤ pos (negPart x + kw) ≡ x -ℤ pos kw
 fallen-is x kw = by-parts _ _ (omega (arith, minus-parts (pos (posPart x)) (pos (negPart x + kw)), minus-parts x (pos kw)))
-
--- The sign and size of a difference: only one below 0 has a sign.
-pub less-sign : (a b : ℕ) → a < b → 1 ≡ pick (isNeg (pos a -ℤ pos b)) 1
-less-sign a b l = signed (pos a -ℤ pos b) (omega (arith, minus-parts (pos a) (pos b)))
-  where
-    signed : (z : ℤ) → 0 < negPart z → 1 ≡ pick (isNeg z) 1
-    signed (pos n) h = absurd (omega arith)
-    signed (negsuc n) h = refl
-
-pub more-sign : (a b : ℕ) → b ≤ a → 0 ≡ pick (isNeg (pos a -ℤ pos b)) 1
-more-sign a b l = unsigned (pos a -ℤ pos b) (omega (arith, minus-parts (pos a) (pos b), one-side (pos a -ℤ pos b)))
-  where
-    unsigned : (z : ℤ) → negPart z ≡ 0 → 0 ≡ pick (isNeg z) 1
-    unsigned (pos n) h = refl
-    unsigned (negsuc n) h = absurd (omega arith)
-
-pub size-apart : (a b : ℕ) → (a - b) + (b - a) ≡ size (pos a -ℤ pos b)
-size-apart a b = omega (arith, minus-parts (pos a) (pos b), one-side (pos a -ℤ pos b))
 
 -- What rises and what falls together stays.
 pub same-sum : (x y : ℤ) (kw : ℕ)

@@ -17,7 +17,7 @@ use Rattle.answer.proofs.Said.{said-accepted, said-refused}
 use Rattle.answer.proofs.Numbers.{gives-said}
 use Rattle.quantity.specs.Signed.{posPart, negPart}
 use Rattle.quantity.proofs.Limits.{full-at-most}
-use Rattle.quantity.proofs.Parts.{by-parts, one-side, minus-parts, size-parts}
+use Rattle.quantity.proofs.Parts.{by-parts, apart-at-most}
 use Rattle.bits.specs.Field.{Bytes}
 use Rattle.layout.specs.Layout.{injectionAt}
 use Rattle.grid.proofs.Net.{Net}
@@ -169,15 +169,7 @@ module _ (percent : ℕ) (bs : List ℕ) (flow : List ℤ) (table : List ℕ) (u
             both j u = omega (arith, state .latents .ahead-is j u, state-here .latents .ahead-is j u)
 
             slight-here : (j : ℕ) → j < C .branches → natAbs (on flow′ j -ℤ on flow j) ≤ kw
-            slight-here j u = omega (
-              arith,
-              size-parts (on flow′ j -ℤ on flow j),
-              one-side (on flow′ j -ℤ on flow j),
-              minus-parts (on flow′ j) (on flow j),
-              both j u,
-              z .rises j,
-              z .falls j,
-            )
+            slight-here j u = apart-at-most (on flow′ j) (on flow j) kw .1 (omega (arith, both j u, z .falls j), omega (arith, both j u, z .rises j))
 
             module _ (touched : List ℕ)
                 (m : Changed (q .wires .branches) (q .latent .ahead) (y .latent .ahead) (q .wires .branches) touched) where

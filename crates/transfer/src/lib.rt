@@ -1,17 +1,11 @@
 // Moving load between two buses: their injections change, power is rerouted between them, and the records on the shortlist are written anew.
 ghost use mathlib.Core.Path.{_≡_};
 ghost use Prim.Native.Nat.{_+_, _≤_};
-ghost use lib.IntN.{pos, _-ℤ_};
-ghost use Rattle.rows.specs.Sum.{pick};
-ghost use Rattle.quantity.specs.Signed.{isNeg};
-ghost use Rattle.layout.specs.Layout.{busValues};
-ghost use Rattle.layout.specs.Inside.{busFrom};
 ghost use Rattle.state.specs.Call.{lent};
 ghost use Rattle.transfer.specs.Inside.{TwoBuses, Shiftable};
 ghost use Rattle.transfer.specs.Promise.{leavesRange, transferCheck, shiftedBytes, TransferEnds};
 use answer::Answer;
 use answer::Outcome;
-use layout::Bus;
 use reroute::Verdict;
 
 // By how much an injection may rise, of which so much lies above 0 and so much below. By how much it may fall, the other way round.
@@ -67,23 +61,6 @@ fn check(
     Outcome::Accepted
 }
 
-// 1 where more leaves than enters. A zero is never negative.
-fn sign_of(enters: u32, leaves: u32) -> u32
-    ensures { λ r. ⌜ r ≡ pick (isNeg (pos enters -ℤ pos leaves)) 1 ⌝ }
-{
-    if enters < leaves { 1 } else { 0 }
-}
-
-// A bus at which so much enters and so much leaves.
-fn bus_of(enters: u32, leaves: u32) -> Bus
-    ensures { λ r. ⌜ r ≡ busFrom (busValues (pos enters -ℤ pos leaves)) ⌝ }
-{
-    Bus {
-        sign: sign_of(enters, leaves),
-        size: state::apart(enters, leaves),
-    }
-}
-
 // Both injections are written over where they stand.
 fn put_injections(book: &mut [u8], up: usize, down: usize, kw: u32)
     requires { ⌜ Shiftable (now book) up down kw ⌝ }
@@ -91,8 +68,8 @@ fn put_injections(book: &mut [u8], up: usize, down: usize, kw: u32)
 {
     let x = book::injection_at(book, up);
     let y = book::injection_at(book, down);
-    let risen = bus_of(quantity::above(x) + kw, quantity::below(x));
-    let fallen = bus_of(quantity::above(y), quantity::below(y) + kw);
+    let risen = pack::net_bus(quantity::above(x) + kw, quantity::below(x));
+    let fallen = pack::net_bus(quantity::above(y), quantity::below(y) + kw);
     layout::put_bus(book, up, risen);
     layout::put_bus(book, down, fallen);
 }

@@ -22,22 +22,8 @@ pub const FAULTS: &[(&str, Plant)] = &[
             }
         })
     }),
-    ("a flow number beyond the count written", |done| {
-        accepted(done, |network, done| {
-            network.lines.len() < 256 && {
-                done.after.flow[255] += 1;
-                true
-            }
-        })
-    }),
-    ("a record written one stretch too far", |done| {
-        accepted(done, |network, done| {
-            network.lines.len() < 256 && {
-                done.after.table[SIZE * network.lines.len()] ^= 1;
-                true
-            }
-        })
-    }),
+    ("a flow number beyond the count written", |done| accepted(done, flow_beyond)),
+    ("a record written one stretch too far", |done| accepted(done, table_beyond)),
     ("a short branch called carrying", |done| first_record(done, SHORT, |_, _, _| Some(record::bytes(Verdict::Carries, &[])))),
     ("a carrying branch called short", |done| {
         first_record(done, CARRYING, |_, _, _| Some(record::bytes(Verdict::Short(Excess { amount: 1, group: 1 }), &[])))

@@ -38,20 +38,10 @@ pub const LOAD_LEFT_FAULTS: &[(&str, Plant)] = &[
         })
     }),
     ("a move of load that writes a flow number beyond the count", |done| {
-        moved(done, |network, _, done| {
-            network.lines.len() < 256 && {
-                done.after.flow[network.lines.len()] += 1;
-                true
-            }
-        })
+        moved(done, |network, _, done| flow_beyond(network, done))
     }),
     ("a move of load that writes a table byte beyond the count", |done| {
-        moved(done, |network, _, done| {
-            network.lines.len() < 256 && {
-                done.after.table[SIZE * network.lines.len()] ^= 1;
-                true
-            }
-        })
+        moved(done, |network, _, done| table_beyond(network, done))
     }),
     ("a move of load that keeps the table", |done| {
         moved(done, |network, _, done| {

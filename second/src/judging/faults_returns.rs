@@ -37,22 +37,8 @@ pub const RETURN_FAULTS: &[(&str, Plant)] = &[
         })
     }),
     ("a return that finds another flow, with a table true of it", another_flow),
-    ("a return that writes a flow number beyond the count", |done| {
-        back(done, |network, _, done| {
-            network.lines.len() < 256 && {
-                done.after.flow[network.lines.len()] += 1;
-                true
-            }
-        })
-    }),
-    ("a return that writes a table byte beyond the count", |done| {
-        back(done, |network, _, done| {
-            network.lines.len() < 256 && {
-                done.after.table[SIZE * network.lines.len()] ^= 1;
-                true
-            }
-        })
-    }),
+    ("a return that writes a flow number beyond the count", |done| back(done, |network, _, done| flow_beyond(network, done))),
+    ("a return that writes a table byte beyond the count", |done| back(done, |network, _, done| table_beyond(network, done))),
     ("a return that leaves a reroute in its branch's record", |done| {
         own_record(done, |network, branch, bytes| {
             let other = (0..network.lines.len()).find(|&k| k != branch);

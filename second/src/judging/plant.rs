@@ -286,3 +286,13 @@ pub fn flow_number(left: &mut Spaces) {
 pub fn table_byte(left: &mut Spaces) {
     left.table[13_000] ^= 1;
 }
+
+/// The first flow number beyond the count written otherwise, where there is one.
+pub fn flow_beyond(network: &Network, done: &mut Done) -> bool {
+    done.after.flow.get_mut(network.lines.len()).map(|number| *number ^= 1).is_some()
+}
+
+/// The first table byte beyond the count written otherwise, where there is one.
+pub fn table_beyond(network: &Network, done: &mut Done) -> bool {
+    done.after.table.get_mut(SIZE * network.lines.len()).map(|byte| *byte ^= 1).is_some()
+}

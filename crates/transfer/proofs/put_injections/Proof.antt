@@ -28,7 +28,7 @@ both-read c = c .before .before .before .before .before
 abbrev first-put : tie.After-put-bus2 → tie.After-put-bus
 first-put c = c .before .before .before .before
 
-abbrev both-made : tie.After-put-bus → tie.After-bus-of2
+abbrev both-made : tie.After-put-bus → tie.After-net-bus2
 both-made c = c .before .before
 
 -- ---- The parts of the two injections.
@@ -63,24 +63,24 @@ kw-small : (c : tie.After-injection-at2) → start c .args .kw ≤ 2000000
 kw-small c = let p = start c .pre in rise-small (injectionAt _ (start c .args .up)) (start c .args .kw) (up-small (p .buses)) (p .rises)
 
 -- ---- The two buses as they become.
-risen-bus : (c : tie.After-bus-of)
-    → c .bus-of .result
+risen-bus : (c : tie.After-net-bus)
+    → c .net-bus .result
     ≡ busFrom (busValues (risen (start (c .before .before .before) .args .book .now)
     (start (c .before .before .before) .args .up) (start (c .before .before .before) .args .kw)))
 risen-bus c =
     let s = start (c .before .before .before) in
-    c .bus-of .ensures
+    c .net-bus .ensures
     ∙ ap (λ (z : ℤ). busFrom (busValues z))
     (ap₂ (λ (a b : ℕ). pos (a + s .args .kw) -ℤ pos b) (up-above (c .before .before))
     (up-below (c .before)) ∙ risen-is (injectionAt _ _) (s .args .kw))
 
-fallen-bus : (c : tie.After-bus-of2)
-    → c .bus-of2 .result
+fallen-bus : (c : tie.After-net-bus2)
+    → c .net-bus2 .result
     ≡ busFrom (busValues (fallen (start (both-read (c .before)) .args .book .now)
     (start (both-read (c .before)) .args .down) (start (both-read (c .before)) .args .kw)))
 fallen-bus c =
     let s = start (both-read (c .before)) in
-    c .bus-of2 .ensures
+    c .net-bus2 .ensures
     ∙ ap (λ (z : ℤ). busFrom (busValues z))
     (ap₂ (λ (a b : ℕ). pos a -ℤ pos (b + s .args .kw)) (down-above (c .before)) (down-below (c .before)) ∙ fallen-is (injectionAt _ _) (s .args .kw))
 
@@ -94,14 +94,14 @@ injection-at-requires-2 c κs = few-buses (c .before .before .before .before .pr
 above-requires : tie.Need-above-requires
 above-requires c κs = search needs
 
-add-bus-of : tie.Need-add-bus-of
-add-bus-of c = let s = c .before in omega (arith, up-above c, up-small (start s .pre .buses), kw-small s)
+add-net-bus : tie.Need-add-net-bus
+add-net-bus c = let s = c .before in omega (arith, up-above c, up-small (start s .pre .buses), kw-small s)
 
 below-requires : tie.Need-below-requires
 below-requires c κs = search needs
 
-bus-of-requires : tie.Need-bus-of-requires
-bus-of-requires c κs = search needs
+net-bus-requires : tie.Need-net-bus-requires
+net-bus-requires c κs = search needs
 
 above-requires-2 : tie.Need-above-requires-2
 above-requires-2 c κs = search needs
@@ -109,11 +109,11 @@ above-requires-2 c κs = search needs
 below-requires-2 : tie.Need-below-requires-2
 below-requires-2 c κs = search needs
 
-add-bus-of-2 : tie.Need-add-bus-of-2
-add-bus-of-2 c = let s = both-read c in omega (arith, down-below c, down-small (start s .pre .buses), kw-small s)
+add-net-bus-2 : tie.Need-add-net-bus-2
+add-net-bus-2 c = let s = both-read c in omega (arith, down-below c, down-small (start s .pre .buses), kw-small s)
 
-bus-of-requires-2 : tie.Need-bus-of-requires-2
-bus-of-requires-2 c κs = search needs
+net-bus-requires-2 : tie.Need-net-bus-requires-2
+net-bus-requires-2 c κs = search needs
 
 put-bus-requires : tie.Need-put-bus-requires
 put-bus-requires c κs = few-buses (start (both-read (c .before .before)) .pre .buses) .0
@@ -144,13 +144,13 @@ put-injections-spec =
     injection-at-requires
     injection-at-requires-2
     above-requires
-    add-bus-of
+    add-net-bus
     below-requires
-    bus-of-requires
+    net-bus-requires
     above-requires-2
     below-requires-2
-    add-bus-of-2
-    bus-of-requires-2
+    add-net-bus-2
+    net-bus-requires-2
     put-bus-requires
     put-bus-requires-2
     same-length

@@ -1,7 +1,7 @@
 -- Only what is below 0 has a sign.
-use Rattle.transfer.proofs.Injections.{less-sign, more-sign}
-use Rattle.transfer.proofs.sign_of.Statement.{statement}
-use Rattle.transfer.proofs.sign_of.Tie as tie
+use Rattle.quantity.proofs.Parts.{less-sign, more-sign}
+use Rattle.quantity.proofs.sign_of.Statement.{statement}
+use Rattle.quantity.proofs.sign_of.Tie as tie
 
 returns : tie.Need-returns
 returns c = less-sign _ _ (c .if1 .taken)

@@ -1,9 +1,9 @@
 -- The sign and size of what enters less what leaves.
 use borrow.Author.Needs.{needs}
 use mathlib.Core.Path.{_∙_}
-use Rattle.transfer.proofs.Injections.{size-apart}
-use Rattle.transfer.proofs.bus_of.Statement.{statement}
-use Rattle.transfer.proofs.bus_of.Tie as tie
+use Rattle.quantity.proofs.Parts.{size-apart}
+use Rattle.pack.proofs.net_bus.Statement.{statement}
+use Rattle.pack.proofs.net_bus.Tie as tie
 
 sign-of-requires : tie.Need-sign-of-requires
 sign-of-requires c κs = search needs
@@ -17,5 +17,5 @@ returns c =
     let z = c .apart .ensures ∙ size-apart _ _ in
     λ i. record { sign = s i; size = z i }
 
-pub bus-of-spec : {M : Type 1} → statement M
-bus-of-spec = tie.close (tie.spec sign-of-requires apart-requires returns)
+pub net-bus-spec : {M : Type 1} → statement M
+net-bus-spec = tie.close (tie.spec sign-of-requires apart-requires returns)
