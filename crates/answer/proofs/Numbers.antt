@@ -54,16 +54,19 @@ module _ (ns : List ℕ) where
       or_true : (t : Bool) → (t || true) ≡ true
       or_true true = refl
       or_true false = refl
+  gives_number (Overloaded _) g = elim g [ ]
 
   pub gives_not : (o : Outcome) (n : ℕ) → Gives ns o → member n ns ≡ false → (n ≡ 0 → ⊥) → number_of o ≡ n → ⊥
   gives_not Accepted n g h z e = z (sym e)
   gives_not (Refused why) n g h z e = not_member why.number n g.0 h e
+  gives_not (Overloaded _) n g h z e = elim g [ ]
 
   -- It has a place exactly if its number is 4 or 5.
   pub gives_place : (o : Outcome) → Gives ns o → has_place (place_of o) ≡ member (number_of o) placed
   unfolding member
   gives_place Accepted g = refl
   gives_place (Refused why) g = g.1
+  gives_place (Overloaded _) g = elim g [ ]
 
   -- Without 4 and 5 among these it has none.
   pub gives_nowhere : (o : Outcome) → member 4 ns ≡ false → member 5 ns ≡ false → Gives ns o → place_of o ≡ Nowhere
@@ -79,11 +82,13 @@ module _ (ns : List ℕ) where
       go : (w : Place) → has_place w ≡ member why.number placed → w ≡ Nowhere
       go Nowhere e = refl
       go (At i j) e = absurd (neither (eqb why.number 4) (eqb why.number 5) refl refl (sym e))
+  gives_nowhere (Overloaded _) four five g = elim g [ ]
 
   -- All but 12 carry shortage 0 and an empty group.
   pub gives_said : (o : Outcome) → member 0 ns ≡ false → member 12 ns ≡ false → Gives ns o → {r : Answer} → r ≡ bare o → SaidBy o r
   gives_said Accepted z t g e = rw e said_accepted
   gives_said (Refused why) z t g e = rw e (said_at why.number why.place (not_member _ 0 g.0 z) (not_member _ 12 g.0 t))
+  gives_said (Overloaded _) z t g {r = r} e = elim g [ ]
 
   pub said_is : (o : Outcome) → member 0 ns ≡ false → member 12 ns ≡ false → Gives ns o → {r : Answer} → SaidBy o r → r ≡ bare o
   said_is o z t g s = said_same s (gives_said o z t g refl)
@@ -105,3 +110,4 @@ more (x ∷ xs) ms n h e = go (eqb n x) refl (λ q. more xs ms n (both_true (mem
 pub gives_more : (ns ms : List ℕ) (o : Outcome) → inside ns ms ≡ true → Gives ns o → Gives ms o
 gives_more ns ms Accepted h g = tt
 gives_more ns ms (Refused why) h g = (more ns ms why.number h g.0, g.1)
+gives_more ns ms (Overloaded _) h g = elim g [ ]

@@ -50,6 +50,8 @@ reads_puts z at (w ∷ ws) (v ∷ vs) h f =
     ap₂ {C = List ℕ} (λ (x : ℕ) (l : List ℕ). x ∷ l)
     (field_same _ (put z at w v) at w (λ i l k. puts_before (put z at w v) (at + w) ws vs i k) ∙ field_put z at w v (omega arith) f.0)
     (reads_puts (put z at w v) (at + w) ws vs (omega (arith, length_put z at w v)) f.1)
+reads_puts z at [] (v ∷ vs) h f = elim f [ ]
+reads_puts z at (w ∷ ws) [] h f = elim f [ ]
 
 -- What was read from b and put into z has b's bits there.
 pub puts_reads : (z b : List ℕ) (at : ℕ) (ws : List ℕ) (i : ℕ) → at + total ws ≤ 8 * length z → at ≤ i → i < at + total ws → bit_at (puts z at ws (reads b at ws)) i ≡ bit_at b i

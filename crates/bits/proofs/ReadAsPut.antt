@@ -154,23 +154,23 @@ field_append bs at w (suc v) =
 pub length_put : (bs : List ℕ) (at w v : ℕ) → length (put bs at w v) ≡ length bs
 unfolding put
 length_put bs at zero v = refl
-length_put bs at (suc w) v = length_put _ at w (v / 2) ∙ length_set_bit bs (at + w) (v % 2)
+length_put bs at (suc w) v = length_put (set_bit bs (at + w) (v % 2)) at w (v / 2) ∙ length_set_bit bs (at + w) (v % 2)
 
 pub bytes_put : (bs : List ℕ) (at w v : ℕ) → Bytes bs → Bytes (put bs at w v)
 unfolding put
 bytes_put bs at zero v g = g
-bytes_put bs at (suc w) v g = bytes_put _ at w (v / 2) (bytes_set_bit bs (at + w) (v % 2) (omega arith) g)
+bytes_put bs at (suc w) v g = bytes_put (set_bit bs (at + w) (v % 2)) at w (v / 2) (bytes_set_bit bs (at + w) (v % 2) (omega arith) g)
 
 -- A put leaves every bit before it and every bit after it.
 pub put_before : (bs : List ℕ) (at w v i : ℕ) → i < at → bit_at (put bs at w v) i ≡ bit_at bs i
 unfolding put
 put_before bs at zero v i h = refl
-put_before bs at (suc w) v i h = put_before _ at w (v / 2) i h ∙ bit_other bs (at + w) i (v % 2) (omega arith) (omega arith)
+put_before bs at (suc w) v i h = put_before (set_bit bs (at + w) (v % 2)) at w (v / 2) i h ∙ bit_other bs (at + w) i (v % 2) (omega arith) (omega arith)
 
 pub put_after : (bs : List ℕ) (at w v i : ℕ) → at + w ≤ i → bit_at (put bs at w v) i ≡ bit_at bs i
 unfolding put
 put_after bs at zero v i h = refl
-put_after bs at (suc w) v i h = put_after _ at w (v / 2) i (omega arith) ∙ bit_other bs (at + w) i (v % 2) (omega arith) (omega arith)
+put_after bs at (suc w) v i h = put_after (set_bit bs (at + w) (v % 2)) at w (v / 2) i (omega arith) ∙ bit_other bs (at + w) i (v % 2) (omega arith) (omega arith)
 
 -- What was put is read.
 pub field_put : (bs : List ℕ) (at w v : ℕ) → at + w ≤ 8 * length bs → v < 2 ^ w → field (put bs at w v) at w ≡ v

@@ -13,7 +13,7 @@ use quantity::Kw;
 
 // The numbers of a case, a row for each: what the base flow keeps to, and what a loss is judged by. A branch in service may have limit 0, so
 // `served` stands apart.
-#[derive(Drop)]
+#[derive(Clone, Copy)]
 pub struct CaseRows {
     pub buses: usize,
     pub branches: usize,
@@ -26,7 +26,7 @@ pub struct CaseRows {
     pub load: [u32; 128],
 }
 
-#[derive(Drop)]
+#[derive(Clone, Copy)]
 struct BusRows {
     pub gain: [u32; 128],
     pub load: [u32; 128],
@@ -47,7 +47,7 @@ fn bus_rows(book: &[u8], buses: usize) -> BusRows
     BusRows { gain, load }
 }
 
-#[derive(Drop)]
+#[derive(Clone, Copy)]
 struct BranchRows {
     pub first: [u8; 256],
     pub second: [u8; 256],

@@ -7,7 +7,7 @@ ghost use Rattle.fit.specs.Inside.{Lendable, Measurable, Measured, Talliable, Ta
 use search::{Latent, Wires};
 
 // The latent capacities that a lent flow leaves, where it fits.
-#[derive(Drop)]
+#[derive(Clone, Copy)]
 pub struct Lending {
     pub fits: bool,
     pub latent: Latent,

@@ -13,14 +13,14 @@ ghost use Rattle.layout.specs.Check.{outside};
 use quantity::Kva;
 
 // A branch of a new book has a second kVA, after the first.
-#[derive(Drop)]
+#[derive(Clone, Copy)]
 pub enum Form {
     Old,
     New,
 }
 
 // The form, the counts, the power factor and the fill bits of a book.
-#[derive(Drop)]
+#[derive(Clone, Copy)]
 pub struct Head {
     pub form: Form,
     pub buses: usize,
@@ -30,14 +30,14 @@ pub struct Head {
 }
 
 // A bus as the book has it: sign 1 is negative.
-#[derive(Drop)]
+#[derive(Clone, Copy)]
 pub struct Bus {
     pub sign: u32,
     pub size: u32,
 }
 
 // A branch as the book and the table beside it have it: status 1 is in service. In an old book both figures are the same.
-#[derive(Drop)]
+#[derive(Clone, Copy)]
 pub struct Branch {
     pub first: u32,
     pub second: u32,
@@ -127,7 +127,7 @@ pub fn is_outside(buses: usize, branches: usize, factor: u32) -> bool
 }
 
 // What enters and what leaves over some buses.
-#[derive(Drop)]
+#[derive(Clone, Copy)]
 pub struct Sums {
     pub enters: u32,
     pub leaves: u32,

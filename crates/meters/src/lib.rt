@@ -9,14 +9,14 @@ use answer::{Answer, Outcome, answer_with, refuse};
 use quantity::{advanced, difference};
 
 // A quarter hour's kW through a bus, out of the network and into it.
-#[derive(Drop)]
+#[derive(Clone, Copy)]
 struct Passed {
     imported: u32,
     exported: u32,
 }
 
 // What all buses but the supply import and export together, unless an advance among them is too large to be one.
-#[derive(Drop)]
+#[derive(Clone, Copy)]
 enum Totals {
     Sums { imported: u32, exported: u32 },
     TooFar,

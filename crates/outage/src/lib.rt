@@ -19,7 +19,7 @@ fn touch(branches: usize, before: [u32; 256], after: [u32; 256], branch: usize) 
 }
 
 // An answer, and how many losses were judged for it.
-#[derive(Drop)]
+#[derive(Clone, Copy)]
 pub struct Taken {
     pub answer: Answer,
     pub judged: usize,

@@ -11,7 +11,7 @@ use line::write_line;
 use lines::{put_branch, put_head, put_refused};
 
 // The answer that a list was made from, and how many bytes the list has.
-#[derive(Drop)]
+#[derive(Clone, Copy)]
 pub struct Printout {
     pub answer: Answer,
     pub length: usize,

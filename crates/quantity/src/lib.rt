@@ -6,11 +6,11 @@ ghost use Rattle.quantity.specs.Rating.{limit_of, percent_out};
 ghost use Rattle.quantity.specs.Register.{advance};
 
 // Apparent power.
-#[derive(Drop)]
+#[derive(Clone, Copy)]
 pub struct Kva(pub u32);
 
 // Real power.
-#[derive(Drop)]
+#[derive(Clone, Copy)]
 pub struct Kw(pub u32);
 
 // What a rating allows at a power factor in thousandths and a percentage of nameplate. A rating leaves its kVA nowhere else.

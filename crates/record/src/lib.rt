@@ -4,7 +4,7 @@ ghost use Rattle.verdict.specs.Record.{verdict_in};
 ghost use Rattle.record.specs.Inside.{Stretch, record_bytes, Read, listed};
 
 // What a record shows of its branch.
-#[derive(Drop)]
+#[derive(Clone, Copy)]
 pub struct Entry {
     pub verdict: u8,
     pub shortage: u32,

@@ -9,14 +9,14 @@ ghost use Rattle.std.specs.Prelude.{◌<◌, ◌≤◌, ◌≡◌};
 use search::{Latent, Search, Wires, Work, smaller};
 
 // What is left at each bus.
-#[derive(Drop)]
+#[derive(Clone, Copy)]
 pub struct Rest {
     pub surplus: [u32; 128],
     pub deficit: [u32; 128],
 }
 
 // `left` is the whole surplus left, and `group` the smallest group with that excess.
-#[derive(Drop)]
+#[derive(Clone, Copy)]
 pub struct Moved {
     pub latent: Latent,
     pub rest: Rest,
@@ -24,13 +24,13 @@ pub struct Moved {
     pub left: u32,
 }
 
-#[derive(Drop)]
+#[derive(Clone, Copy)]
 pub enum Verdict {
     Carries,
     Short { excess: u32 },
 }
 
-#[derive(Drop)]
+#[derive(Clone, Copy)]
 pub struct Judgement {
     pub verdict: Verdict,
     pub latent: Latent,

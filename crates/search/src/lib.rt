@@ -8,7 +8,7 @@ ghost use Rattle.std.specs.Prelude.{◌<◌, ◌≤◌, ◌+◌, min, ◌≡◌,
 // The ends of the branches, and links that give the branches of a bus in rising number.
 // A link is a side: k is branch k met at its first end, 256 + k is branch k met at its second end, 512 is none.
 // So the scan finds the next side by one load, and the bus at the other end of a side by another, without a comparison of buses.
-#[derive(Drop)]
+#[derive(Clone, Copy)]
 pub struct Wires {
     pub buses: usize,
     pub branches: usize,
@@ -20,14 +20,14 @@ pub struct Wires {
 }
 
 // The latent capacity of each branch from its first end to its second, and back.
-#[derive(Drop)]
+#[derive(Clone, Copy)]
 pub struct Latent {
     pub ahead: [u32; 256],
     pub back: [u32; 256],
 }
 
 // What one search works on: marks, all 0 at first, the queue, and the latent capacities.
-#[derive(Drop)]
+#[derive(Clone, Copy)]
 pub struct Work {
     pub marks: [u16; 128],
     pub queue: [u8; 128],
@@ -35,14 +35,14 @@ pub struct Work {
 }
 
 // A route is its goal, its smallest latent capacity and its start.
-#[derive(Drop)]
+#[derive(Clone, Copy)]
 pub enum Search {
     Route(usize, u32, usize),
     Group,
 }
 
 // The group's bits stand beside the answer: 16 zeros beside a route.
-#[derive(Drop)]
+#[derive(Clone, Copy)]
 pub struct Found {
     pub answer: Search,
     pub taken: usize,
@@ -95,7 +95,7 @@ fn away(side: usize, x: u32, y: u32) -> u32
 }
 
 // What a search has marked so far; of each marked bus, `room` has the smallest latent capacity of the way to it and `origin` its start.
-#[derive(Drop)]
+#[derive(Clone, Copy)]
 struct Grown {
     marks: [u16; 128],
     queue: [u8; 128],

@@ -13,7 +13,7 @@ pub use stream::four;
 use stream::signed;
 
 // What a command took, and the bytes that the book then has.
-#[derive(Drop)]
+#[derive(Clone, Copy)]
 pub struct Next {
     pub taken: usize,
     pub bytes: usize,

@@ -5,7 +5,7 @@ ghost use Rattle.spaces.specs.InsideNumbers.{Asked};
 use rows::two;
 
 // A number of two bytes, and the place after it; both are 0 where the command is bad.
-#[derive(Drop)]
+#[derive(Clone, Copy)]
 pub struct Number {
     pub value: usize,
     pub end: usize,

@@ -20,7 +20,7 @@ use reroute::Verdict;
 use search::{Latent, Wires};
 
 // The limits in `live` are the normal ones, and those in `brief` what a loss is judged by; both are 0 for a branch out of service.
-#[derive(Drop)]
+#[derive(Clone, Copy)]
 pub struct Plan {
     pub wires: Wires,
     pub served: [bool; 256],
@@ -92,7 +92,7 @@ pub fn prepare(rows: CaseRows) -> Plan
 }
 
 // A lent book and flow: its rows, whether the flow fits, and the latent capacities that a fitting flow leaves of the normal limits.
-#[derive(Drop)]
+#[derive(Clone, Copy)]
 pub struct Survey {
     pub wires: Wires,
     pub served: [bool; 256],

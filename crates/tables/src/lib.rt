@@ -43,7 +43,7 @@ pub fn run_read(
 }
 
 // The first numbers of `W` and `X`, and the place after them: 0 where one is bad.
-#[derive(Drop)]
+#[derive(Clone, Copy)]
 struct Head {
     buses: usize,
     count: usize,
@@ -159,7 +159,7 @@ pub fn run_move(rest: &[u8], book: &[u8], bytes: usize, shelf: &mut [u8]) -> usi
 }
 
 // Where the four lists of `M` end among its readings.
-#[derive(Drop)]
+#[derive(Clone, Copy)]
 struct Lists {
     first: usize,
     second: usize,

@@ -26,7 +26,7 @@ fn refill(input: &mut [u8], at: usize, end: usize) -> usize
 }
 
 // Where the rest of the stream stands in the input.
-#[derive(Drop)]
+#[derive(Clone, Copy)]
 struct Window {
     at: usize,
     end: usize,
