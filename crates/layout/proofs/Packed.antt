@@ -1,5 +1,5 @@
 -- Laws of packed fields, whatever the widths of a branch: each is read back, nothing else stands beside them, and a book's own fields give its bytes.
-use mathlib.Core.Path.{◌≡◌, refl, sym, ◌∙◌}
+use mathlib.Core.Path.{◌≡◌, refl, sym, ◌∙◌, ap}
 use mathlib.Core.List.{List}
 use Prim.Native.Nat.{ℕ, ◌+◌, ◌*◌, ◌/◌, ◌<◌, ◌≤◌}
 use native.Mathlib.Decide.{dec_lt}
@@ -76,7 +76,10 @@ pub put_packed : (ws head : List ℕ) (bus : ℕ → List ℕ) (n : ℕ) (branch
     → z₂ ≡ put_items bus_widths z₁ bus_start bus n → z₃ ≡ put_items ws z₂ (branch_start n) branch m
     → z₃ ≡ packed ws head bus n branch m
 unfolding packed
-put_packed ws head bus n branch m out z₀ z₁ z₂ z₃ l e₀ e₁ e₂ e₃ = e₃ ∙ rw (e₂, e₁, e₀, l) refl
+put_packed ws head bus n branch m out z₀ z₁ z₂ z₃ l e₀ e₁ e₂ e₃ =
+    e₃
+    ∙ ap (λ (z : List ℕ). put_items ws z (branch_start n) branch m)
+    (e₂ ∙ ap (λ (z : List ℕ). put_items bus_widths z bus_start bus n) (e₁ ∙ ap (λ (z : List ℕ). puts z 0 head_widths head) (e₀ ∙ ap (λ (k : ℕ). replicate k 0) l)))
 
 -- Only the fields of the n buses and the m branches matter.
 pub packed_same : (ws head : List ℕ) (bus bus' : ℕ → List ℕ) (n : ℕ) (branch branch' : ℕ → List ℕ) (m : ℕ)

@@ -81,6 +81,7 @@ zero_past (suc j) u = zeros 51 j
     zeros zero i = refl
     zeros (suc n) zero = refl
     zeros (suc n) (suc i) = zeros n i
+zero_past zero u = elim u [ ]
 
 pub idle_record : (C : Case) (f : ℕ → ℤ) (b : ℕ) (rec : List ℕ) → Posed C → C.served b ≡ true → f b ≡ pos 0 → Fits (out C b) C.loss_limit f → TrueRecord C f b rec
     → rec ≡ 1 ∷ replicate 51 0

@@ -1,0 +1,14 @@
+-- `set_status` sets the status bit where the book's own form has it.
+use native.Mathlib.Omega.{arith}
+use mathlib.Core.Path.{refl, ◌∙◌}
+use Rattle.bits.proofs.ReadAsPut.{field_lt}
+use Rattle.layout.proofs.set_status.Goals as goal
+
+pub branch_place-at-requires : goal.branch_place-at-requires
+branch_place-at-requires c =
+    (omega (arith, c.head_of-h.ensures.buses_are, field_lt c.args.book.now 0 8), omega (arith, c.requires.0))
+
+pub returns : goal.returns
+returns c =
+    let h = c.head_of-h.ensures in
+    c.set_bit.ensures ∙ rw (c.width.ensures.width_is, c.branch_place-at.ensures.place_is, h.form_is, h.buses_are) refl
