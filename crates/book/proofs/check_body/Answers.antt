@@ -16,21 +16,21 @@ returns-in-At c =
 
 pub returns-in-At-branch : goal.returns-in-At-branch
 returns-in-At-branch c =
-    let buses_sound : let a = c.args in first_fault (bus_fault_at a.book.now) a.h.buses ≡ Nowhere = sym c.first-bus-fault.ensures ∙ c.enum-told2.given.1 in
+    let buses_sound : let a = c.args in first_fault (bus_fault_at a.book.now) a.h.buses ≡ Nowhere = sym c.first_bus_fault-bus.ensures ∙ c.in_default.is in
     c.refuse_at-in-At-branch.ensures ∙ body_branch _ _ c.requires.0 buses_sound c.first_branch_fault-branch.ensures c.in-At-branch.is
 
 pub returns-then-field-ne0 : goal.returns-then-field-ne0
 returns-then-field-ne0 c =
-    let buses_sound : let a = c.args in first_fault (bus_fault_at a.book.now) a.h.buses ≡ Nowhere = sym c.first-bus-fault.ensures ∙ c.enum-told2.given.1 in
-    let branches_sound : let a = c.args in first_fault (branch_fault_at a.book.now) a.h.branches ≡ Nowhere = sym c.first-branch-fault.ensures ∙ c.enum-told4.given.1 in
+    let buses_sound : let a = c.args in first_fault (bus_fault_at a.book.now) a.h.buses ≡ Nowhere = sym c.first_bus_fault-bus.ensures ∙ c.in_default.is in
+    let branches_sound : let a = c.args in first_fault (branch_fault_at a.book.now) a.h.branches ≡ Nowhere = sym c.first_branch_fault-branch.ensures ∙ c.in_default-branch.is in
     let tail_is : let a = c.args in c.field.result ≡ field a.book.now (bits_for a.h.form a.h.buses a.h.branches) 7 = let a = c.args in c.field.ensures ∙ ap (λ (p : ℕ). field a.book.now p 7) c.branch_place.ensures.place_is in
     c.refuse.ensures
     ∙ body_tail _ _ c.requires.0 buses_sound branches_sound (λ e. c.if-field-ne0.true (tail_is ∙ e))
 
 pub returns-then-not-is_balanced : goal.returns-then-not-is_balanced
 returns-then-not-is_balanced c =
-    let buses_sound : let a = c.args in first_fault (bus_fault_at a.book.now) a.h.buses ≡ Nowhere = sym c.first-bus-fault.ensures ∙ c.enum-told2.given.1 in
-    let branches_sound : let a = c.args in first_fault (branch_fault_at a.book.now) a.h.branches ≡ Nowhere = sym c.first-branch-fault.ensures ∙ c.enum-told4.given.1 in
+    let buses_sound : let a = c.args in first_fault (bus_fault_at a.book.now) a.h.buses ≡ Nowhere = sym c.first_bus_fault-bus.ensures ∙ c.in_default.is in
+    let branches_sound : let a = c.args in first_fault (branch_fault_at a.book.now) a.h.branches ≡ Nowhere = sym c.first_branch_fault-branch.ensures ∙ c.in_default-branch.is in
     let tail_is : let a = c.args in c.field.result ≡ field a.book.now (bits_for a.h.form a.h.buses a.h.branches) 7 = let a = c.args in c.field.ensures ∙ ap (λ (p : ℕ). field a.book.now p 7) c.branch_place.ensures.place_is in
     c.refuse-then-not-is_balanced.ensures
     ∙ body_sum _ _ c.requires.0 buses_sound branches_sound (sym tail_is ∙ c.if-field-ne0.false)
@@ -38,8 +38,8 @@ returns-then-not-is_balanced c =
 
 pub returns : goal.returns
 returns c =
-    let buses_sound : let a = c.args in first_fault (bus_fault_at a.book.now) a.h.buses ≡ Nowhere = sym c.first-bus-fault.ensures ∙ c.enum-told2.given.1 in
-    let branches_sound : let a = c.args in first_fault (branch_fault_at a.book.now) a.h.branches ≡ Nowhere = sym c.first-branch-fault.ensures ∙ c.enum-told4.given.1 in
+    let buses_sound : let a = c.args in first_fault (bus_fault_at a.book.now) a.h.buses ≡ Nowhere = sym c.first_bus_fault-bus.ensures ∙ c.in_default.is in
+    let branches_sound : let a = c.args in first_fault (branch_fault_at a.book.now) a.h.branches ≡ Nowhere = sym c.first_branch_fault-branch.ensures ∙ c.in_default-branch.is in
     let tail_is : let a = c.args in c.field.result ≡ field a.book.now (bits_for a.h.form a.h.buses a.h.branches) 7 = let a = c.args in c.field.ensures ∙ ap (λ (p : ℕ). field a.book.now p 7) c.branch_place.ensures.place_is in
     body_good _ _ c.requires.0 buses_sound branches_sound (sym tail_is ∙ c.if-field-ne0.false)
     (sym c.is_balanced.ensures ∙ not-false _ c.if-not-is_balanced.false-raw)

@@ -1,6 +1,5 @@
 -- `fill_injections` fills a table with the injections.
 use borrow.Author.Rules.{sfits_of}
-use Prim.Native.Nat.{◌-◌}
 use mir.Syntax.{w32}
 use mir.Val.{SFits}
 use mir.Facts.{to_z-of_z}

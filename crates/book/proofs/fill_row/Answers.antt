@@ -30,11 +30,11 @@ bounds-row-3-2 c = simp length-set (omega (arith, c.requires, (numbered c.args.f
 
 pub bounds-row-4 : goal.bounds-row-4
 bounds-row-4 c =
-    let new_long : length c.args.row.now ≡ 5 = c.requires ∙ ap fields c.enum_told.given.1 in
+    let new_long : length c.args.row.now ≡ 5 = c.requires ∙ ap fields c.in-New.is in
     simp length-set (omega (arith, new_long))
 
 pub returns : goal.returns
 returns c =
-    let new_long : length c.args.row.now ≡ 5 = c.requires ∙ ap fields c.enum_told.given.1 in
+    let new_long : length c.args.row.now ≡ 5 = c.requires ∙ ap fields c.in-New.is in
     let a = c.args in
     rw c.in-New.is (stored (branch_values New a.x) a.row.now new_long)

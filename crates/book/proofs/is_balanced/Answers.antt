@@ -1,7 +1,6 @@
 -- `is_balanced` is true exactly where what enters is what leaves.
 use borrow.Author.Rules.{sfits_of}
 use mathlib.Core.Path.{refl}
-use Prim.Native.Nat.{◌-◌}
 use mir.Syntax.{w32}
 use mir.Val.{SFits}
 use mir.Facts.{to_z-of_z}

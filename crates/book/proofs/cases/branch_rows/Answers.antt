@@ -1,6 +1,5 @@
 -- `branch_rows` fills the five rows with the book's branches.
 use native.Mathlib.Omega.{arith}
-use Prim.Native.Nat.{◌-◌}
 use Rattle.book.proofs.BranchRowsFilled.{branching_start, branching_more, branching_end, ends_fit}
 use Rattle.book.proofs.cases.branch_rows.Goals as goal
 

@@ -1,7 +1,6 @@
 -- `bus_rows` fills the rows of what enters and what leaves.
-use borrow.Author.Rules.{sfits_of}
+use borrow.Author.Rules.{rules}
 use mathlib.Core.Path.{ap, ◌∙◌}
-use Prim.Native.Nat.{◌-◌}
 use mir.Syntax.{w32}
 use mir.Val.{SFits}
 use mir.Facts.{to_z-of_z}
@@ -15,7 +14,7 @@ loop-k-init c = (fill_start _ _ _, fill_start _ _ _)
 pub loop-k-preserved : goal.loop-k-preserved
 loop-k-preserved c =
     let x = c.injection_at-x in
-    let fit : SFits w32 x.result = sfits_of x.type-inv in (
+    let fit : SFits w32 x.result = search rules in (
       fill_more _ _ _ _ _ _ c.loop-k-test.true c.requires c.loop-k.invariant.0 ((rw (to_z-of_z fit) at c.above.ensures) ∙ ap pos_part x.ensures),
       fill_more _ _ _ _ _ _ c.loop-k-test.true c.requires c.loop-k.invariant.1 ((rw (to_z-of_z fit) at c.below.ensures) ∙ ap neg_part x.ensures),
     )
