@@ -1,0 +1,61 @@
+-- Each early answer is the first test that fails.
+use native.Mathlib.Omega.{arith}
+use mathlib.Core.Path.{◌≡◌, sym, ◌∙◌}
+use mathlib.Core.Bool.{false}
+use Prim.Native.Nat.{ℕ, ◌≤◌}
+use mathlib.Core.List.{List}
+use Rattle.answer.specs.declared.Outcome.TheVariants.{Accepted}
+use Rattle.answer.proofs.Refusals.{not_accepted}
+use Rattle.quantity.specs.Rating.{percent_out}
+use Rattle.layout.specs.Check.{check_of}
+use Rattle.book.proofs.RowsHoldBook.{head_in_range}
+use Rattle.state.proofs.Checked.{by_percent, by_book, by_flow_room, by_table_room, passing}
+use Rattle.state.proofs.check_lent.Goals as goal
+
+pub returns-then-percent_out : goal.returns-then-percent_out
+returns-then-percent_out c = c.refuse.ensures ∙ by_percent _ _ _ _ (sym c.percent_out.ensures ∙ c.if-percent_out.true)
+
+pub returns-in_default : goal.returns-in_default
+returns-in_default c =
+    -- ---- What holds there.
+    let in_range : percent_out c.args.percent ≡ false = sym c.percent_out.ensures ∙ c.if-percent_out.false in
+    by_book _ _ _ _ in_range _ c.check_with-found.ensures c.in_default.not-Accepted
+
+pub returns-then-flows-h : goal.returns-then-flows-h
+returns-then-flows-h c =
+    -- ---- What holds there.
+    let in_range : percent_out c.args.percent ≡ false = sym c.percent_out.ensures ∙ c.if-percent_out.false in
+    let bytes : List ℕ = c.args.book.now in
+    let ok : check_of bytes ≡ Accepted = sym c.check_with-found.ensures ∙ c.in-Accepted.is in
+    c.refuse-then-flows-h.ensures
+    ∙ by_flow_room _ _ _ _ in_range ok (omega (arith, c.if-flows-h.true, c.head_of-h.ensures.branches_are))
+
+pub overflow_mul-h : goal.overflow_mul-h
+overflow_mul-h c =
+    let bytes : List ℕ = c.args.book.now in
+    let ok : check_of bytes ≡ Accepted = sym c.check_with-found.ensures ∙ c.in-Accepted.is in
+    let few : c.head_of-h.result.branches ≤ 256 = (head_in_range bytes _ c.head_of-h.ensures ok).few_branches in
+    omega (arith, few)
+
+pub returns-then-bytes-h : goal.returns-then-bytes-h
+returns-then-bytes-h c =
+    -- ---- What holds there.
+    let in_range : percent_out c.args.percent ≡ false = sym c.percent_out.ensures ∙ c.if-percent_out.false in
+    let bytes : List ℕ = c.args.book.now in
+    let ok : check_of bytes ≡ Accepted = sym c.check_with-found.ensures ∙ c.in-Accepted.is in
+    c.refuse-then-bytes-h.ensures
+    ∙ by_table_room _ _ _ _ in_range ok (omega (arith, c.if-bytes-h.true, c.head_of-h.ensures.branches_are))
+
+pub returns : goal.returns
+returns c =
+    -- ---- What holds there.
+    let in_range : percent_out c.args.percent ≡ false = sym c.percent_out.ensures ∙ c.if-percent_out.false in
+    let bytes : List ℕ = c.args.book.now in
+    let ok : check_of bytes ≡ Accepted = sym c.check_with-found.ensures ∙ c.in-Accepted.is in
+    let n = c.head_of-h.ensures.branches_are in
+    sym (passing _ _ _ (record {
+      in_range = in_range;
+      book = ok;
+      flow_room = omega (arith, c.if-flows-h.false, n);
+      table_room = omega (arith, c.if-bytes-h.false, n);
+    }))
