@@ -1,6 +1,5 @@
 -- `check_body` refuses 4 to 7 in order: each return by one law.
 use mathlib.Core.Path.{◌≡◌, sym, ap, ◌∙◌}
-use borrow.Author.Tests.{not-true, not-false}
 use Prim.Native.Nat.{ℕ}
 use Rattle.bits.specs.Field.{field}
 use Rattle.layout.specs.Layout.{bits_for}
@@ -34,7 +33,7 @@ returns-then-not-is_balanced c =
     let tail_is : let a = c.args in c.field.result ≡ field a.book.now (bits_for a.h.form a.h.buses a.h.branches) 7 = let a = c.args in c.field.ensures ∙ ap (λ (p : ℕ). field a.book.now p 7) c.branch_place.ensures.place_is in
     c.refuse-then-not-is_balanced.ensures
     ∙ body_sum _ _ c.requires.0 buses_sound branches_sound (sym tail_is ∙ c.if-field-ne0.false)
-    (sym c.is_balanced.ensures ∙ not-true _ c.if-not-is_balanced.true-raw)
+    (sym c.is_balanced.ensures ∙ c.if-not-is_balanced.true)
 
 pub returns : goal.returns
 returns c =
@@ -42,4 +41,4 @@ returns c =
     let branches_sound : let a = c.args in first_fault (branch_fault_at a.book.now) a.h.branches ≡ Nowhere = sym c.first_branch_fault-branch.ensures ∙ c.in_default-branch.is in
     let tail_is : let a = c.args in c.field.result ≡ field a.book.now (bits_for a.h.form a.h.buses a.h.branches) 7 = let a = c.args in c.field.ensures ∙ ap (λ (p : ℕ). field a.book.now p 7) c.branch_place.ensures.place_is in
     body_good _ _ c.requires.0 buses_sound branches_sound (sym tail_is ∙ c.if-field-ne0.false)
-    (sym c.is_balanced.ensures ∙ not-false _ c.if-not-is_balanced.false-raw)
+    (sym c.is_balanced.ensures ∙ c.if-not-is_balanced.false)

@@ -3,7 +3,6 @@ use mathlib.Core.Path.{◌≡◌, sym, ◌∙◌}
 use mathlib.Core.Bool.{false}
 use Prim.Native.Nat.{◌*◌, ◌≤◌}
 use lib.ListN.{length}
-use borrow.Author.Tests.{not-true, not-false}
 use Rattle.answer.specs.declared.Place.TheVariants.{Nowhere}
 use Rattle.layout.specs.Form.{fields}
 use Rattle.layout.specs.Fault.{first_fault}
@@ -68,7 +67,7 @@ returns-then-not-is_balanced c =
     let entries : let a = c.args in first_fault (entry_fault a.injections.now) a.buses ≡ Nowhere = sym c.first_entry_fault-bus.ensures ∙ c.in_default.is in
     let faultless : let a = c.args in first_fault (row_fault a.form a.buses a.branches.now) a.count ≡ Nowhere = sym c.first_row_fault-branch.ensures ∙ c.in_default-branch.is in
     c.refuse-then-not-is_balanced.ensures
-    ∙ write_sum _ _ _ _ _ _ _ inside c.if-injections-buses.false long entries faultless (sym c.is_balanced.ensures ∙ not-true _ c.if-not-is_balanced.true-raw)
+    ∙ write_sum _ _ _ _ _ _ _ inside c.if-injections-buses.false long entries faultless (sym c.is_balanced.ensures ∙ c.if-not-is_balanced.true)
 
 pub bytes_for-requires : goal.bytes_for-requires
 bytes_for-requires c =
@@ -83,7 +82,7 @@ returns-then-room-bytes_for c =
     let entries : let a = c.args in first_fault (entry_fault a.injections.now) a.buses ≡ Nowhere = sym c.first_entry_fault-bus.ensures ∙ c.in_default.is in
     let faultless : let a = c.args in first_fault (row_fault a.form a.buses a.branches.now) a.count ≡ Nowhere = sym c.first_row_fault-branch.ensures ∙ c.in_default-branch.is in
     c.refuse-then-room-bytes_for.ensures
-    ∙ write_room _ _ _ _ _ _ _ inside c.if-injections-buses.false long entries faultless (sym c.is_balanced.ensures ∙ not-false _ c.if-not-is_balanced.false-raw) _ c.bytes_for.ensures c.if-room-bytes_for.true
+    ∙ write_room _ _ _ _ _ _ _ inside c.if-injections-buses.false long entries faultless (sym c.is_balanced.ensures ∙ c.if-not-is_balanced.false) _ c.bytes_for.ensures c.if-room-bytes_for.true
 
 pub returns : goal.returns
 returns c =
@@ -91,4 +90,4 @@ returns c =
     let long : let a = c.args in fields a.form * a.count ≤ length a.branches.now = rw c.numbers.ensures.count_is at c.if-branches-numbers.false in
     let entries : let a = c.args in first_fault (entry_fault a.injections.now) a.buses ≡ Nowhere = sym c.first_entry_fault-bus.ensures ∙ c.in_default.is in
     let faultless : let a = c.args in first_fault (row_fault a.form a.buses a.branches.now) a.count ≡ Nowhere = sym c.first_row_fault-branch.ensures ∙ c.in_default-branch.is in
-    write_good_lem _ _ _ _ _ _ _ inside c.if-injections-buses.false long entries faultless (sym c.is_balanced.ensures ∙ not-false _ c.if-not-is_balanced.false-raw) _ c.bytes_for.ensures c.if-room-bytes_for.false
+    write_good_lem _ _ _ _ _ _ _ inside c.if-injections-buses.false long entries faultless (sym c.is_balanced.ensures ∙ c.if-not-is_balanced.false) _ c.bytes_for.ensures c.if-room-bytes_for.false

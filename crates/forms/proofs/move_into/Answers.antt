@@ -1,0 +1,24 @@
+-- `move_into` writes the bytes of the book in the form asked for.
+use Rattle.forms.specs.Inside.{Small}
+use Rattle.forms.proofs.Moving.{small_head, moved_bytes_lem}
+use Rattle.forms.proofs.move_into.Goals as goal
+
+pub put_head-requires : goal.put_head-requires
+put_head-requires c =
+    let small : Small c.args.h = small_head _ _ c.requires.head c.requires.book in
+    let s = small in (s.few_buses, s.few_branches)
+
+pub move_buses-requires : goal.move_buses-requires
+move_buses-requires c =
+    let small : Small c.args.h = small_head _ _ c.requires.head c.requires.book in
+    small
+
+pub move_branches-requires : goal.move_branches-requires
+move_branches-requires c =
+    let small : Small c.args.h = small_head _ _ c.requires.head c.requires.book in
+    small
+
+pub returns : goal.returns
+returns c =
+    moved_bytes_lem _ _ _ c.requires.head c.requires.book c.args.out.now _ _ _ _ c.requires.exact c.clear.ensures c.put_head.ensures
+    c.move_buses.ensures c.move_branches.ensures
