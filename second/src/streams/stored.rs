@@ -14,7 +14,7 @@ use crate::definitions::record;
 use crate::definitions::switching::Way;
 use crate::streams::under_way::Stream;
 use crate::streams::{
-    stored_forms, stored_islands, stored_loads, stored_orders, stored_percentages, stored_places, stored_ratings, stored_returns,
+    stored_forms, stored_islands, stored_loads, stored_percentages, stored_places, stored_ratings, stored_returns,
 };
 use crate::trial::stream::{Command, BOOK, FLOWS, INJECTIONS, NUMBERS, TABLE};
 
@@ -61,7 +61,6 @@ pub fn stream() -> Vec<u8> {
     stored_percentages::add(&mut stream);
     stored_islands::add(&mut stream);
     stored_loads::add(&mut stream);
-    stored_orders::add(&mut stream);
     // A bad command stops a stream, so it stays the last.
     stream.bytes.extend(b"F\x01\x00");
     stream.bytes

@@ -1,0 +1,23 @@
+-- `branch_rows` fills the five rows with the book's branches.
+use native.Mathlib.Omega.{arith}
+use Rattle.book.proofs.BranchRowsFilled.{branching_start, branching_more, branching_end, ends_fit}
+use Rattle.book.proofs.cases.branch_rows.Goals as goal
+
+pub loop-k-init : goal.loop-k-init
+loop-k-init c = branching_start _ _ _ _ _ _ _ _ _ _ _
+
+pub overflow_cast-first : goal.overflow_cast-first
+overflow_cast-first c =
+    let w = ends_fit c.args.h.form _ _ c.loop-k.k _ c.branch_at-x.ensures in omega (arith, w.first_fits)
+
+pub overflow_cast-second : goal.overflow_cast-second
+overflow_cast-second c =
+    let w = ends_fit c.args.h.form _ _ c.loop-k.k _ c.branch_at-x.ensures in omega (arith, w.second_fits)
+
+pub loop-k-preserved : goal.loop-k-preserved
+loop-k-preserved c =
+    branching_more _ _ _ _ _ _ _ _ _ _ _ _ _ _ _ c.loop-k-test.true c.requires.1 c.loop-k.invariant
+    c.branch_at-x.ensures c.limit_of.ensures c.loss_of.ensures
+
+pub returns : goal.returns
+returns c = branching_end _ _ _ _ _ _ _ _ _ c.loop-k-test.false c.loop-k.invariant
