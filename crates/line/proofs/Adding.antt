@@ -30,6 +30,15 @@ added_then {s} {t} {l} {m} {a = a} {b} {c} p q = record {
 pub added_same : {s t l m : List ℕ} {a b : ℕ} → s ≡ t → Added s l a m b → Added t l a m b
 added_same {l = l} {m} {a} {b} e p = subst (λ (u : List ℕ). Added u l a m b) e p
 
+-- Where a text ends is where it began and its length.
+pub added_whole : {s l m : List ℕ} {a b : ℕ} → Added s l a m b → Added s l a m (a + length s)
+added_whole {s} {l} {m} {a} p = subst (λ (k : ℕ). Added s l a m k) p.ends p
+
+pub added_first : {s l m : List ℕ} {b : ℕ} → Added s l 0 m b → Added s l 0 m (length s)
+added_first {s} {l} {m} {b} p =
+    let e : b ≡ length s = omega (arith, p.ends) in
+    subst (λ (k : ℕ). Added s l 0 m k) e p
+
 -- A text of which i bytes stand in the line.
 pub record Copying (text l : List ℕ) (a : ℕ) (m : List ℕ) (i : ℕ) : Type 0 where
   pub upto : i ≤ length text

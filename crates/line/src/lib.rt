@@ -4,10 +4,12 @@ ghost use Rattle.line.specs.Text.{decimal_of, signed_of, hex_of, next_of, number
 ghost use Rattle.line.specs.Inside.{Added};
 
 mod answers;
+mod reading;
 mod whole;
 mod writing;
 
 pub use answers::{put_answer, put_group, put_place};
+pub use reading::read_full;
 pub use whole::{answer_line, bytes_line, hex_line, numbers_line, signed_line};
 pub use writing::write_line;
 
