@@ -3,21 +3,21 @@ ghost use Rattle.std.specs.Prelude.{◌≡◌};
 ghost use Rattle.answer.specs.Answer.{bare, refusal, refusal_at, number_of, shortage_of, place_of, item_of, field_of};
 
 // Where a book is wrong: which bus or branch, numbered from 0, and which of its fields, numbered from 1 in layout order.
-#[derive(Drop)]
+#[derive(Clone, Copy)]
 pub enum Place {
     Nowhere,
     At { item: usize, field: u8 },
 }
 
 // Why a call was refused: the number that document 01 gives it and, for 4 and 5, where the book is wrong.
-#[derive(Drop)]
+#[derive(Clone, Copy)]
 pub struct Refusal {
     pub number: u8,
     pub place: Place,
 }
 
 // Refusal 12 stands apart, since it alone carries a shortage: `Overloaded` with its kW.
-#[derive(Drop)]
+#[derive(Clone, Copy)]
 pub enum Outcome {
     Accepted,
     Refused(Refusal),
@@ -25,7 +25,7 @@ pub enum Outcome {
 }
 
 // The group stands beside the outcome: bus k is bit 7 - k mod 8 of byte k / 8.
-#[derive(Drop)]
+#[derive(Clone, Copy)]
 pub struct Answer {
     pub outcome: Outcome,
     pub group: [u8; 16],
