@@ -238,6 +238,7 @@ pub rows_sound : (percent : ℕ) → percent_out percent ≡ false → (xs : Lis
 unfolding rows_test
 rows_sound p i (y ∷ ys) t x (Memᴰ.head e) = subst (Holds p) (sym e) (row_sound p i y (and_left _ _ t))
 rows_sound p i (y ∷ ys) t x (Memᴰ.tail m) = rows_sound p i ys (and_right _ _ t) x m
+rows_sound p i [] t x x4 = elim x4 [ ]
 
 pub row_in : (xs : List Row) (k : ℕ) → k < length xs → Memᴰ (get_or xs k (shows (triangle Old 1000 30 1 1) [])) xs
 row_in [] k u = absurd (omega arith)
