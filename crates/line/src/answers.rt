@@ -1,11 +1,10 @@
 // The text of a group, of a place and of an answer, added to a line.
-ghost use Rattle.std.specs.Prelude.{◌≡◌, ◌++◌, ◌+◌, ◌≤◌, length};
-ghost use Rattle.answer.specs.Answer.{number_of, shortage_of, place_of};
+ghost use Rattle.std.specs.Prelude.{◌++◌, ◌+◌, ◌≤◌, length};
 ghost use Rattle.line.specs.Inside.{Added};
 ghost use Rattle.line.specs.AnswerText.{group_text, place_text, answer_text};
 
 use crate::{put, put_next};
-use answer::{Answer, Outcome, Place};
+use answer::{Answer, Place, number_of, place_of, shortage_of};
 
 // The number of buses in the group, and these in rising order.
 pub fn put_group(out: &mut [u8], at: usize, group: [u8; 16]) -> usize
@@ -38,50 +37,17 @@ pub fn put_place(out: &mut [u8], at: usize, place: Place) -> usize
     put_next(out, after_item, field as u64)
 }
 
-// What a line shows of an outcome.
-#[derive(Drop)]
-struct Shown {
-    number: u8,
-    shortage: u32,
-    place: Place,
-}
-
-// Each reader of an outcome takes it, and a line shows all three: it is read once here.
-fn shown_of(outcome: Outcome) -> Shown
-    ensures number { result.number ≡ number_of outcome }
-    ensures shortage { result.shortage ≡ shortage_of outcome }
-    ensures place { result.place ≡ place_of outcome }
-{
-    match outcome {
-        Outcome::Accepted => Shown {
-            number: 0,
-            shortage: 0,
-            place: Place::Nowhere,
-        },
-        Outcome::Refused(why) => Shown {
-            number: why.number,
-            shortage: 0,
-            place: why.place,
-        },
-        Outcome::Overloaded(shortage) => Shown {
-            number: 12,
-            shortage,
-            place: Place::Nowhere,
-        },
-    }
-}
-
 // A word, then the number of the answer, its shortage, its group and its place.
 pub fn put_answer(out: &mut [u8], word: &[u8], answer: Answer) -> usize
     requires { length word.now + 2793 ≤ length out.old }
     ensures added { Added (word.now ++ answer_text answer) out.old 0 out.new result }
     ensures upper_bound { result ≤ length word.now + 2793 }
 {
+    let outcome = answer.outcome;
     let group = answer.group;
-    let shown = shown_of(answer.outcome);
     let after_word = put(out, 0, word);
-    let after_number = put_next(out, after_word, shown.number as u64);
-    let after_shortage = put_next(out, after_number, shown.shortage as u64);
+    let after_number = put_next(out, after_word, number_of(outcome) as u64);
+    let after_shortage = put_next(out, after_number, shortage_of(outcome) as u64);
     let after_group = put_group(out, after_shortage, group);
-    put_place(out, after_group, shown.place)
+    put_place(out, after_group, place_of(outcome))
 }

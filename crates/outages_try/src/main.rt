@@ -1,17 +1,20 @@
-// Runs the list of `outages` on several inputs: each has its length in two bytes before it, the high byte first.
-use libc::STDIN_FILENO;
+// Runs the list of `outages` on several inputs: each has its length in two bytes before it, the high byte first. It fails where a read or a write does.
+use line::read_full;
+use std::io;
 
-fn main() {
+fn main(rt: HostRuntime) -> io::Result<()> {
     let mut input = [0u8; 16384];
-    let n = io::read_full(STDIN_FILENO, &mut input);
+    let mut stdin = rt.stdin();
+    let n = read_full(&mut stdin, &mut input)?;
     let mut at: usize = 0;
     while at + 2 <= n {
         let start = at + 2;
         let end = start + rows::two(&input, at);
         if n < end {
-            return;
+            return Ok(());
         }
-        printing::print_list(&input[start..end]);
+        printing::print_list(&rt, &input[start..end])?;
         at = end;
     }
+    Ok(())
 }

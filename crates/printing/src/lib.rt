@@ -1,5 +1,6 @@
-// Document 01's list of a book, written to standard output: each line is built whole (`lines`), with room for a newline, and written at once.
-ghost use Rattle.std.specs.Prelude.{◌≡◌, ◌+◌, ◌*◌, ◌≤◌, length};
+// Document 01's list of a book, written to a printer, as standard output: each line is built whole (`lines`), with room for a newline, and written at
+// once. A call whose write fails writes no more, and answers with that error.
+ghost use Rattle.std.specs.Prelude.{◌≡◌, ◌+◌, ◌*◌, ◌≤◌, length, IfOk};
 ghost use Rattle.printing.specs.Lines.{head_text, branch_text, refused_text};
 ghost use Rattle.printing.specs.List.{accepted_text, Printed};
 ghost use Rattle.printing.specs.Inside.{Handed, Listable};
@@ -9,6 +10,7 @@ mod lines;
 use answer::{Answer, Outcome};
 use line::write_line;
 use lines::{put_branch, put_head, put_refused};
+use std::io;
 
 // The answer that a list was made from, and how many bytes the list has.
 #[derive(Clone, Copy)]
@@ -17,59 +19,59 @@ pub struct Printout {
     pub length: usize,
 }
 
-fn print_head(book: &[u8]) -> usize
-    ensures { Handed (head_text book.now) 42 result }
+fn print_head<R: Print>(rt: &R, book: &[u8]) -> io::Result<usize>
+    ensures { IfOk result (λ n. Handed (head_text book.now) 42 n) }
 {
     let mut out = [0u8; 42];
     let end = put_head(&mut out, book);
-    write_line(&mut out, end)
+    write_line(rt, &mut out, end)
 }
 
-fn print_branch(table: &[u8], k: usize) -> usize
+fn print_branch<R: Print>(rt: &R, table: &[u8], k: usize) -> io::Result<usize>
     requires { 52 * k + 52 ≤ length table.now }
-    ensures { Handed (branch_text table.now k) 2759 result }
+    ensures { IfOk result (λ n. Handed (branch_text table.now k) 2759 n) }
 {
     let mut out = [0u8; 2759];
     let end = put_branch(&mut out, table, k);
-    write_line(&mut out, end)
+    write_line(rt, &mut out, end)
 }
 
-fn print_refused(answer: Answer) -> usize
-    ensures { Handed (refused_text answer) 2759 result }
+fn print_refused<R: Print>(rt: &R, answer: Answer) -> io::Result<usize>
+    ensures { IfOk result (λ n. Handed (refused_text answer) 2759 n) }
 {
     let mut out = [0u8; 2759];
     let end = put_refused(&mut out, answer);
-    write_line(&mut out, end)
+    write_line(rt, &mut out, end)
 }
 
 // The list of an accepted book: its head line, then a line for each branch.
-fn list(book: &[u8], table: &[u8]) -> usize
+fn list<R: Print>(rt: &R, book: &[u8], table: &[u8]) -> io::Result<usize>
     requires { Listable book.now table.now }
-    ensures { result ≡ length (accepted_text book.now table.now) }
+    ensures { IfOk result (λ n. n ≡ length (accepted_text book.now table.now)) }
 {
     let head = layout::head_of(book);
     let branches = head.branches;
-    let mut length = print_head(book);
+    let mut length = print_head(rt, book)?;
     let mut k: usize = 0;
     while k < branches {
-        length += print_branch(table, k);
+        length += print_branch(rt, table, k)?;
         k += 1;
     }
-    length
+    Ok(length)
 }
 
 // The list of a book, or its refusal in one line.
-pub fn print_list(book: &[u8]) -> Printout
-    ensures { Printed book.now result }
+pub fn print_list<R: Print>(rt: &R, book: &[u8]) -> io::Result<Printout>
+    ensures { IfOk result (λ r. Printed book.now r) }
 {
     let mut flow = [0i32; 256];
     let mut table = [0u8; 13312];
     let answer = screen::screen(100, book, &mut flow, &mut table);
     let outcome = answer.outcome;
     let Outcome::Accepted = outcome else {
-        let length = print_refused(answer);
-        return Printout { answer, length };
+        let length = print_refused(rt, answer)?;
+        return Ok(Printout { answer, length });
     };
-    let length = list(book, &table);
-    Printout { answer, length }
+    let length = list(rt, book, &table)?;
+    Ok(Printout { answer, length })
 }

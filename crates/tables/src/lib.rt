@@ -1,33 +1,37 @@
 // Commands on the tables beside a book, and on books alone: it is read into the tables, written from them in either form, moved to a form, and
-// the injections come from meters. Each answers how many bytes of the stream it took, and 0 where it is bad.
-ghost use Rattle.std.specs.Prelude.{◌≡◌, ◌+◌, ◌*◌, ◌<◌, ◌≤◌, length, take, replicate};
+// the injections come from meters. Each answers how many bytes of the stream it took, and 0 where it is bad. What it answers is written to a printer, once
+// its call is made: where a write fails the spaces are as the command leaves them, and it answers with that error.
+ghost use Rattle.std.specs.Prelude.{◌≡◌, ℕ, ◌+◌, ◌*◌, ◌<◌, ◌≤◌, length, take, replicate, IfOk, OnErr};
 ghost use Rattle.rows.specs.Row.{headed};
 ghost use Rattle.meters.specs.Promise.{Metered};
 ghost use Rattle.spaces.specs.InsideStream.{four_at};
-ghost use Rattle.tables.specs.Inside.{ReadRun, WrittenInto, HeadAsked, WriteRun, MoveRun, ListsAsked, registers_in, MetersRun};
+ghost use Rattle.tables.specs.Inside.{ReadRun, WrittenInto, HeadAsked, WriteRun, MoveRun, ListsAsked, registers_in, meters_size, MetersRun};
 
 use answer::{Answer, Outcome};
 use layout::Form;
 use line::{answer_line, bytes_line, numbers_line, signed_line};
 use rows::{two, wide};
 use spaces::{Next, four, number_at};
+use std::io;
 
 // `R`.
-pub fn run_read(
+pub fn run_read<R: Print>(
+    rt: &R,
     rest: &[u8],
     book: &[u8],
     bytes: usize,
     injections: &mut [i32],
     branches: &mut [u32],
-) -> usize
+) -> io::Result<usize>
     requires { (0 < length rest.now) × (bytes ≤ length book.now) × (length injections.old ≤ 256) × (length branches.old ≤ 1280) }
-    ensures read_run { ReadRun rest.now (take bytes book.now) injections.old injections.new branches.old branches.new result }
-    ensures upper_bound { result ≤ length rest.now }
+    ensures read_run { IfOk result (λ r. ReadRun rest.now (take bytes book.now) injections.old injections.new branches.old branches.new r) }
+    ensures upper_bound { IfOk result (λ r. r ≤ length rest.now) }
+    ensures err { OnErr result (ReadRun rest.now (take bytes book.now) injections.old injections.new branches.old branches.new 5) }
 {
     let a = number_at(rest, 1, injections.len());
     let b = number_at(rest, a.end, branches.len());
     if b.end == 0 {
-        return 0;
+        return Ok(0);
     }
     let buses = a.value;
     let numbers = b.value;
@@ -36,10 +40,10 @@ pub fn run_read(
         &mut injections[0..buses],
         &mut branches[0..numbers],
     );
-    answer_line(b"read", answer);
-    signed_line(b"injections", injections);
-    numbers_line(b"branches", branches);
-    b.end
+    answer_line(rt, b"read", answer)?;
+    signed_line(rt, b"injections", injections)?;
+    numbers_line(rt, b"branches", branches)?;
+    Ok(b.end)
 }
 
 // The first numbers of `W` and `X`, and the place after them: 0 where one is bad.
@@ -67,7 +71,8 @@ fn head_of(rest: &[u8]) -> Head
 }
 
 // Writes a book of lent tables into the first bytes of the space: accepted, the book has the written length.
-fn write(
+fn write<R: Print>(
+    rt: &R,
     form: Form,
     head: Head,
     room: usize,
@@ -75,9 +80,10 @@ fn write(
     bytes: usize,
     injections: &[i32],
     branches: &[u32],
-) -> usize
+) -> io::Result<usize>
     requires { (room ≤ length book.old) × (bytes ≤ length book.old) }
-    ensures { WrittenInto form head.buses head.count head.factor injections.now branches.now room book.old bytes book.new result }
+    ensures written { IfOk result (λ r. WrittenInto form head.buses head.count head.factor injections.now branches.now room book.old bytes book.new r) }
+    ensures err { OnErr result ((r : ℕ) × WrittenInto form head.buses head.count head.factor injections.now branches.now room book.old bytes book.new r) }
 {
     let answer = pack::write_book(
         form,
@@ -88,37 +94,40 @@ fn write(
         branches,
         &mut book[0..room],
     );
-    answer_line(b"write", answer);
+    answer_line(rt, b"write", answer)?;
     let outcome = answer.outcome;
     let Outcome::Accepted = outcome else {
-        return bytes;
+        return Ok(bytes);
     };
-    layout::bytes_for(form, head.buses, head.count)
+    Ok(layout::bytes_for(form, head.buses, head.count))
 }
 
 // `W` writes the old form, `X` the new one.
-pub fn run_write(
+pub fn run_write<R: Print>(
+    rt: &R,
     form: Form,
     rest: &[u8],
     book: &mut [u8],
     bytes: usize,
     injections: &[i32],
     branches: &[u32],
-) -> Next
+) -> io::Result<Next>
     requires { (0 < length rest.now) × (bytes ≤ length book.old) }
-    ensures write_run { WriteRun form rest.now injections.now branches.now book.old bytes book.new result }
-    ensures taken_in_bounds { (result.taken ≤ length rest.now) × (result.bytes ≤ length book.old) }
+    ensures write_run { IfOk result (λ r. WriteRun form rest.now injections.now branches.now book.old bytes book.new r) }
+    ensures taken_in_bounds { IfOk result (λ r. (r.taken ≤ length rest.now) × (r.bytes ≤ length book.old)) }
+    ensures err { OnErr result ((r : Next) × (r.taken ≡ 13) × WriteRun form rest.now injections.now branches.now book.old bytes book.new r) }
 {
     let head = head_of(rest);
     let a = number_at(rest, head.end, injections.len());
     let b = number_at(rest, a.end, branches.len());
     let c = number_at(rest, b.end, book.len());
     if c.end == 0 {
-        return Next { taken: 0, bytes };
+        return Ok(Next { taken: 0, bytes });
     }
     let buses = a.value;
     let numbers = b.value;
     let held = write(
+        rt,
         form,
         head,
         c.value,
@@ -126,36 +135,43 @@ pub fn run_write(
         bytes,
         &injections[0..buses],
         &branches[0..numbers],
-    );
-    Next {
+    )?;
+    Ok(Next {
         taken: c.end,
         bytes: held,
-    }
+    })
 }
 
 // `L`.
-pub fn run_move(rest: &[u8], book: &[u8], bytes: usize, shelf: &mut [u8]) -> usize
+pub fn run_move<R: Print>(
+    rt: &R,
+    rest: &[u8],
+    book: &[u8],
+    bytes: usize,
+    shelf: &mut [u8],
+) -> io::Result<usize>
     requires { (bytes ≤ length book.now) × (length shelf.old ≤ 2100) }
-    ensures move_run { MoveRun rest.now (take bytes book.now) shelf.old shelf.new result }
-    ensures upper_bound { result ≤ length rest.now }
+    ensures move_run { IfOk result (λ r. MoveRun rest.now (take bytes book.now) shelf.old shelf.new r) }
+    ensures upper_bound { IfOk result (λ r. r ≤ length rest.now) }
+    ensures err { OnErr result (MoveRun rest.now (take bytes book.now) shelf.old shelf.new 4) }
 {
     if rest.len() < 4 {
-        return 0;
+        return Ok(0);
     }
     let byte = rest[1];
     if 1 < byte {
-        return 0;
+        return Ok(0);
     }
     let room = two(rest, 2);
     if shelf.len() < room {
-        return 0;
+        return Ok(0);
     }
     let form = layout::form_of(byte as u32);
     let answer = forms::move_book(&book[0..bytes], form, &mut shelf[0..room]);
-    answer_line(b"moved", answer);
+    answer_line(rt, b"moved", answer)?;
     let mut out = [0u8; 4207];
-    bytes_line(&mut out, b"shelf", shelf);
-    4
+    bytes_line(rt, &mut out, b"shelf", shelf)?;
+    Ok(4)
 }
 
 // Where the four lists of `M` end among its readings.
@@ -216,26 +232,27 @@ fn meter(rest: &[u8], lists: Lists, supply: usize, injections: &mut [i32]) -> An
 }
 
 // `M`.
-pub fn run_meters(rest: &[u8], injections: &mut [i32]) -> usize
+pub fn run_meters<R: Print>(rt: &R, rest: &[u8], injections: &mut [i32]) -> io::Result<usize>
     requires { length injections.old ≤ 256 }
-    ensures meters_run { MetersRun rest.now injections.old injections.new result }
-    ensures upper_bound { result ≤ length rest.now }
+    ensures meters_run { IfOk result (λ r. MetersRun rest.now injections.old injections.new r) }
+    ensures upper_bound { IfOk result (λ r. r ≤ length rest.now) }
+    ensures err { OnErr result (MetersRun rest.now injections.old injections.new (meters_size rest.now)) }
 {
     if rest.len() < 7 {
-        return 0;
+        return Ok(0);
     }
     let lists = lists_of(rest);
     let lent = wide(rest[5]);
     let taken = 7 + 4 * lists.fourth;
     if injections.len() < lent {
-        return 0;
+        return Ok(0);
     }
     if rest.len() < taken {
-        return 0;
+        return Ok(0);
     }
     let supply = wide(rest[6]);
     let answer = meter(rest, lists, supply, &mut injections[0..lent]);
-    answer_line(b"meters", answer);
-    signed_line(b"injections", injections);
-    taken
+    answer_line(rt, b"meters", answer)?;
+    signed_line(rt, b"injections", injections)?;
+    Ok(taken)
 }
