@@ -60,11 +60,6 @@ fn the_stored_stream_begins_as_it_did_before_load_moved() {
     begins_as(55_823, 0x66cd_5cc0_46b1_2beb);
 }
 
-#[test]
-fn the_stored_stream_begins_as_it_did_before_orders_were_compared() {
-    begins_as(58_454, 0xb3df_7340_c884_4bc2);
-}
-
 /// The stream of then, so many bytes, ended in a bad command of 3 bytes, which stops a stream and so is still the last.
 fn begins_as(length: usize, print: u64) {
     let stream = stored::stream();

@@ -1,4 +1,6 @@
 // What a public call answers: accepted, or refused by document 01's number, with the shortage and group of refusal 12 and the place of 4 and 5.
+#![tactic(auto)]
+
 ghost use Rattle.std.specs.Prelude.{◌≡◌};
 ghost use Rattle.answer.specs.Answer.{bare, refusal, refusal_at, number_of, shortage_of, place_of, item_of, field_of};
 

@@ -2,7 +2,7 @@
 use mathlib.Core.Path.{◌≡◌, refl, sym, ap, ◌∙◌}
 use mathlib.Core.Logic.{◌≢◌}
 use Prim.Native.Nat.{ℕ, zero, suc, ◌+◌, ◌-◌, ◌*◌, ◌/◌, ◌%◌, ◌^◌, ◌<◌, ◌≤◌}
-use native.Mathlib.Nat.{pow-suc, pow-zero, not-suc-le-zero, div-one, mul-one, mul_assoc}
+use native.Mathlib.Nat.{div-eq_of_lt, pow-suc, pow-zero, not-suc-le-zero, div-one, mul-one, mul_assoc}
 use native.Mathlib.Numerals.{one-add}
 use native.Mathlib.Omega.{arith}
 use lib.Pow.{shr-shr, shl_exact}
@@ -94,10 +94,14 @@ set_low_above (suc n) x (suc k) b h kn =
     ∙ sym (halved n x)
 
 -- Numbers with the same n lowest bits and the same above them are equal.
-pub low_ext : (n x y : ℕ) → x / 2 ^ n ≡ y / 2 ^ n → ((k : ℕ) → k < n → low x k ≡ low y k) → x ≡ y
+pub low_ext_above : (n x y : ℕ) → x / 2 ^ n ≡ y / 2 ^ n → ((k : ℕ) → k < n → low x k ≡ low y k) → x ≡ y
 unfolding low
-low_ext zero x y h e = simp (pow-zero 2, div-one) at h
-low_ext (suc n) x y h e =
-    let f : x / 2 ≡ y / 2 = low_ext n (x / 2) (y / 2) (sym (halved n x) ∙ h ∙ halved n y) (λ k l. e (suc k) (omega arith)) in
+low_ext_above zero x y h e = simp (pow-zero 2, div-one) at h
+low_ext_above (suc n) x y h e =
+    let f : x / 2 ≡ y / 2 = low_ext_above n (x / 2) (y / 2) (sym (halved n x) ∙ h ∙ halved n y) (λ k l. e (suc k) (omega arith)) in
     let z : x % 2 ≡ y % 2 = e zero (omega arith) in
     omega arith
+
+-- So numbers below 2 ^ n with the same n bits are.
+pub low_ext : (n x y : ℕ) → x < 2 ^ n → y < 2 ^ n → ((k : ℕ) → k < n → low x k ≡ low y k) → x ≡ y
+low_ext n x y hx hy e = low_ext_above n x y (div-eq_of_lt hx ∙ sym (div-eq_of_lt hy)) e

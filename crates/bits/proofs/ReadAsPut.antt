@@ -12,7 +12,7 @@ use Rattle.rows.specs.Row.{nth}
 use Rattle.rows.specs.Bit.{bit_at}
 use Rattle.bits.specs.Field.{Bytes, field, set_bit, put, OneBit}
 use Rattle.bits.proofs.Low.{low, set_low, low_shift, with_bit_low, low_lt, low_zero, half_of, odd_of, low_same, low_other}
-use Rattle.bits.proofs.Low.{set_low_lt, set_low_above, low_ext}
+use Rattle.bits.proofs.Low.{set_low_lt, set_low_above, low_ext_above}
 
 pub bit_low : (bs : List ℕ) (i : ℕ) → bit_at bs i ≡ low (nth bs (i / 8)) (7 - i % 8)
 unfolding bit_at
@@ -81,7 +81,7 @@ set_bit_above bs i b k h = rw (set_low_lem bs i b) (go (ℕ_discrete k (i / 8)) 
 -- Rows with equal bits, and the same above the eight bits of each number, are equal; so rows of bytes with equal bits are.
 pub ext_row : (xs ys : List ℕ) → length xs ≡ length ys → ((k : ℕ) → nth xs k / 256 ≡ nth ys k / 256)
     → ((i : ℕ) → i < 8 * length xs → bit_at xs i ≡ bit_at ys i) → xs ≡ ys
-ext_row xs ys l a e = ext_get_or 0 xs ys l (λ k h. low_ext 8 _ _ (a k) (λ j n. at k h j n))
+ext_row xs ys l a e = ext_get_or 0 xs ys l (λ k h. low_ext_above 8 _ _ (a k) (λ j n. at k h j n))
   where
     at : (k : ℕ) → k < length xs → (j : ℕ) → j < 8 → low (nth xs k) j ≡ low (nth ys k) j
     at k h j n =

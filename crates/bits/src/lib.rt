@@ -1,4 +1,6 @@
 // Bits in a row of bytes, the most significant of a byte first: fields read and put, one bit made or tested, all of them counted.
+#![tactic(auto)]
+
 ghost use Rattle.std.specs.Prelude.{◌≡◌, ◌+◌, ◌<◌, ◌≤◌, ◌^◌};
 ghost use Rattle.rows.specs.Row.{nth};
 ghost use Rattle.rows.specs.Bit.{has};

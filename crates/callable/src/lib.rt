@@ -1,7 +1,6 @@
-// The screen, the outage call, the return, the move of load and that of a book to a form under C's calling convention, for programs in other
-// languages to link.
-// A slice is a pointer and a length; the answer comes back as its number, its shortage, its group and its place. Item and field are both 0 where the
-// answer has no place.
+// The screen, the outage call, the return, the move of load and that of a book to a form, with the answer in its parts: what `callable_c` exports
+// under C's calling convention, for programs in other languages to link.
+// The answer comes back as its number, its shortage, its group and its place. Item and field are both 0 where the answer has no place.
 ghost use Rattle.answer.specs.Answer.{place_of, no_group};
 ghost use Rattle.layout.specs.Form.{form_of};
 ghost use Rattle.forms.specs.Move.{BookMoved};
@@ -42,8 +41,7 @@ fn tell(
     answer::number_of(outcome)
 }
 
-#[unsafe(no_mangle)]
-pub extern "C" fn callable_screen(
+pub fn callable_screen(
     percent: u32,
     book: &[u8],
     flow: &mut [i32],
@@ -59,8 +57,7 @@ pub extern "C" fn callable_screen(
     tell(answer, shortage, group, item, field)
 }
 
-#[unsafe(no_mangle)]
-pub extern "C" fn callable_take_out(
+pub fn callable_take_out(
     percent: u32,
     book: &mut [u8],
     flow: &mut [i32],
@@ -77,8 +74,7 @@ pub extern "C" fn callable_take_out(
     tell(answer, shortage, group, item, field)
 }
 
-#[unsafe(no_mangle)]
-pub extern "C" fn callable_bring_back(
+pub fn callable_bring_back(
     percent: u32,
     book: &mut [u8],
     flow: &[i32],
@@ -95,8 +91,7 @@ pub extern "C" fn callable_bring_back(
     tell(answer, shortage, group, item, field)
 }
 
-#[unsafe(no_mangle)]
-pub extern "C" fn callable_move_load(
+pub fn callable_move_load(
     percent: u32,
     book: &mut [u8],
     flow: &mut [i32],
@@ -116,8 +111,7 @@ pub extern "C" fn callable_move_load(
 }
 
 // Form 1 is the new one, as the layout bit has it, and any other number asks for the old one. A move shows neither shortage nor group.
-#[unsafe(no_mangle)]
-pub extern "C" fn callable_move_book(
+pub fn callable_move_book(
     book: &[u8],
     form: u8,
     out: &mut [u8],

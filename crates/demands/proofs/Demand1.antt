@@ -1,6 +1,6 @@
 -- Demand 1, over the promises alone: every result of a public call is answered with a number that it may give, with a place exactly if that is 4 or
 -- 5, and a refusal keeps what was lent.
-use mathlib.Core.Path.{◌≡◌, refl, sym, ap, ◌∙◌}
+use mathlib.Core.Path.{◌≡◌, refl, sym, ap, ◌∙◌, subst}
 use mathlib.Core.Bool.{true, false, true≢false}
 use mathlib.Core.List.{List, ◌∷◌}
 use Prim.Native.Nat.{ℕ}
@@ -53,7 +53,7 @@ by_checks ns ms kept o r g i s h = record {
 by_overload : (ms : List ℕ) (kept : Type 0) (C : Case) (r : Answer) → OverloadSaid C r → member 12 (0 ∷ ms) ≡ true → kept → Answered ms kept r
 unfolding member
 by_overload ms kept C r o g h = record {
-  given = rw o.answer.number_is g;
+  given = subst (λ (n : ℕ). member n (0 ∷ ms) ≡ true) (sym o.answer.number_is) g;
   silent = λ n. absurd (n o.answer.number_is);
   place_given = rw (o.answer.number_is, o.answer.place_is) refl;
   refused_keeps = λ n. h;

@@ -138,6 +138,8 @@ module _ (percent : ℕ) where
       (λ taken. outages_exactly u.left ss ts (take_stands s first.call taken) d.1 (rest_kind false x ss o)
       (await_next percent before x ss u false d.0 (switch_done b x.served w.0 taken) a)
       w.1))
+  outages_exactly before [] (u ∷ ts) s d o a w = elim w [ ]
+  outages_exactly before (x ∷ ss) [] s d o a w = elim w [ ]
 
   -- ---- Returns are always accepted in full.
   pub returns_full : (before : Lent) (ss : List Switching) (ts : List Step) → Stands percent before → Different ss → AllAre true ss
@@ -152,6 +154,8 @@ module _ (percent : ℕ) where
             (await_next percent before x ss u true d.0 (switch_done x.branch x.served w.0 returned) a)
             w.1,
       )
+  returns_full before [] (u ∷ ts) s d o a w = elim w [ ]
+  returns_full before (x ∷ ss) [] s d o a w = elim w [ ]
 
 -- ---- Two orders, from true tables of one book: the same table, or any two of them.
 turned : {ss zs : List Switching} → AnotherOrder ss zs → AnotherOrder zs ss
@@ -194,6 +198,7 @@ module _ (percent : ℕ) (here elsewhere : Lent) (one-book : here.book ≡ elsew
           ap (λ (bs : List ℕ). out_all (case_in percent bs) (asks ss false)) one-book
           ∙ ap (out_all (case_in percent elsewhere.book)) (fun_ext (o.same false)) in
           then.1 (subst NoExcess same (first.0 f))
+  order_full v ss [] ts (_ ∷ _) o p q w z f = elim z [ ]
 
 module _ (percent : ℕ) (here elsewhere : Lent) (one-book : here.book ≡ elsewhere.book)
     (here-true : TrueTable (case_in percent here.book) here.flow here.table)

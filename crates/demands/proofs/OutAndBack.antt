@@ -1,10 +1,11 @@
 -- Out and back: a branch of a true table that was taken out may always come back; then every byte of the book is as it was, and so is every verdict,
 -- shortage and group.
-use mathlib.Core.Path.{◌≡◌, ap, ◌∙◌}
+use mathlib.Core.Path.{◌≡◌, ap, ◌∙◌, subst}
 use mathlib.Core.Bool.{false}
 use mathlib.Core.List.{List}
-use Prim.Native.Nat.{ℕ}
+use Prim.Native.Nat.{ℕ, ◌<◌}
 use native.Mathlib.Omega.{arith}
+use Rattle.rows.specs.Row.{nth}
 use Rattle.answer.specs.Answer.{accepted}
 use Rattle.answer.specs.declared.Answer.{Answer}
 use Rattle.bits.specs.Field.{set_bit}
@@ -13,24 +14,26 @@ use Rattle.layout.specs.Layout.{branches_in, status_bit}
 use Rattle.layout.proofs.AcceptedWhere.{accepted_valid}
 use Rattle.layout.proofs.StatusChanged.{bit_kept, count_kept}
 use Rattle.verdict.specs.Case.{Case}
-use Rattle.verdict.specs.Record.{TrueTable}
+use Rattle.verdict.specs.Record.{record_at, TrueTable}
 use Rattle.verdict.specs.Update.{Lent}
 use Rattle.verdict.proofs.Fitting.{served_self}
+use Rattle.verdict.proofs.VerdictByCase.{tables_agree}
 use Rattle.state.specs.Case.{case_in}
 use Rattle.state.proofs.Status.{served_bit}
 use Rattle.outage.specs.Promise.{TakeEnds}
 use Rattle.restore.specs.Promise.{BackEnds}
-use Rattle.demands.specs.Order.{ShowSame}
 use Rattle.demands.proofs.Ends.{TakeDone, take_done, back_done}
 use Rattle.demands.proofs.Demand3.{Stands, take_stands, back_stands}
 use Rattle.demands.proofs.Returns.{stands_returns}
-use Rattle.demands.proofs.SameBook.{book_shows}
 
 -- What a call leaves that undoes the one before it.
 pub record Undone (percent : ℕ) (before after : Lent) (s : Answer) : Type 0 where
   pub goes_back : s ≡ accepted
-  pub as_before : ShowSame percent after before
-  pub table_true : TrueTable (case_in percent after.book) after.flow after.table
+  pub same_book : after.book ≡ before.book
+  pub table_true : TrueTable (case_in percent before.book) after.flow after.table
+  -- bytes 0 to 19: verdict, shortage and group
+  pub same_shown : (k : ℕ) → k < (case_in percent before.book).branches → (j : ℕ) → j < 20
+      → nth (record_at after.table k) j ≡ nth (record_at before.table k) j
 
 -- The bit cleared and set again, by the books that the two calls leave.
 book_again : {percent : ℕ} {before mid : Lent} {after : List ℕ} {b : ℕ} → TakeDone percent b before mid
@@ -59,5 +62,6 @@ out_and_back {percent} {before} {mid} {after} {b} {r} {s} t e a f =
     let off : (case_in percent mid.book).served b ≡ false =
     ap (λ (D : Case). D.served b) d.took.case_is ∙ served_self (case_in percent bs) b false in
     let x = stands_returns m (omega (arith, d.passes.there)) off f in
-    let y = (back_stands m f x).table_true in
-    record { goes_back = x; as_before = book_shows percent after before (book_again d (back_done f x).brought.book_is) y t; table_true = y }
+    let same = book_again d (back_done f x).brought.book_is in
+    let y = subst (λ (l : List ℕ). TrueTable (case_in percent l) after.flow after.table) same (back_stands m f x).table_true in
+    record { goes_back = x; same_book = same; table_true = y; same_shown = tables_agree (case_in percent bs) _ _ _ _ y t }

@@ -95,6 +95,8 @@ module _ (percent : ℕ) where
   turn_true before (s ∷ ss) (u ∷ ts) w f t =
       let d = switch_done s.branch s.served w.0 f.0 in
       turn_true u.left ss ts w.1 f.1 (switch_stands s.branch s.served (passed_stands d.passes t) w.0 f.0).table_true
+  turn_true before [] (u ∷ ts) w f t = elim w [ ]
+  turn_true before (s ∷ ss) [] w f t = elim w [ ]
 
   -- In a run it joins it, so that every verdict, shortage and group is then a fresh screen's too.
   pub turn_joins : (before : Lent) (ss : List Switching) (ts : List Step) → InTurn percent before ss ts → InFull ts → Run percent before
@@ -102,12 +104,16 @@ module _ (percent : ℕ) where
   turn_joins before [] [] w f run = run
   turn_joins before (s ∷ ss) (u ∷ ts) w f run =
       turn_joins u.left ss ts w.1 f.1 (switch_joins s.branch s.served run w.0 f.0)
+  turn_joins before [] (u ∷ ts) w f run = elim w [ ]
+  turn_joins before (s ∷ ss) [] w f run = elim w [ ]
 
   pub turn_but : (before : Lent) (ss : List Switching) (ts : List Step) → InTurn percent before ss ts → InFull ts
       → ButStatus before.book (last before ts).book
   turn_but before [] [] w f = but_itself before.book
   turn_but before (s ∷ ss) (u ∷ ts) w f =
       but_then (switch_done s.branch s.served w.0 f.0).but_status (turn_but u.left ss ts w.1 f.1)
+  turn_but before [] (u ∷ ts) w f = elim w [ ]
+  turn_but before (s ∷ ss) [] w f = elim w [ ]
 
   pub turn_served : (before : Lent) (ss : List Switching) (ts : List Step) → Different ss → InTurn percent before ss ts → InFull ts
       → (k : ℕ) → (case_in percent (last before ts).book).served k ≡ asked ((case_in percent before.book).served k) (asks ss false k) (asks ss true k)
@@ -123,6 +129,8 @@ module _ (percent : ℕ) where
     where
       none : eqb k s.branch ≡ true → (asks ss false k ≡ false) × (asks ss true k ≡ false)
       none e = rw (eqb-true k s.branch e) (d.0 false, d.0 true)
+  turn_served before [] (u ∷ ts) d w f k = elim w [ ]
+  turn_served before (s ∷ ss) [] d w f k = elim w [ ]
 
 -- ---- What was asked, by cases.
 asked_first : (s v q o : Bool) → q ≡ true → o ≡ false → (not (differ s v) && q) || o ≡ true → s ≡ v
@@ -166,6 +174,8 @@ module _ (percent : ℕ) where
           let n = not_first ss v s.branch k (d.0 v) a in
           let l = later a in
           (omega (arith, first.but_status.count, l.0), sym (left_served first k n) ∙ l.1)
+  turn_awaits before [] (u ∷ ts) d w f v k e = elim w [ ]
+  turn_awaits before (s ∷ ss) [] d w f v k e = elim w [ ]
 
   -- After the first call the others still await theirs.
   pub await_next : (before : Lent) (s : Switching) (ss : List Switching) (u : Step) (v : Bool) → ((w : Bool) → asks ss w s.branch ≡ false)
@@ -180,3 +190,5 @@ module _ (percent : ℕ) where
       → (v : Bool) (k : ℕ) → asks ss v k ≡ true → Passed percent before.book (length before.flow) (length before.table)
   turn_passes before [] [] w f v k e = absurd (true≢false (sym e))
   turn_passes before (s ∷ ss) (u ∷ ts) w f v k e = (switch_done s.branch s.served w.0 f.0).passes
+  turn_passes before [] (u ∷ ts) w f v k e = elim w [ ]
+  turn_passes before (s ∷ ss) [] w f v k e = elim w [ ]

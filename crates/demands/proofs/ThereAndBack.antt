@@ -18,6 +18,7 @@ use Rattle.verdict.specs.Case.{Case, shifted, on, Fits}
 use Rattle.verdict.specs.Record.{TrueTable}
 use Rattle.verdict.specs.Update.{Lent}
 use Rattle.verdict.proofs.Shift.{shift_back}
+use Rattle.verdict.proofs.VerdictByCase.{tables_agree}
 use Rattle.state.specs.Case.{case_in}
 use Rattle.state.specs.Call.{OverloadSaid, refuses, unfit, overloads, accepts}
 use Rattle.state.proofs.Checked.{posed_passed}
@@ -29,7 +30,6 @@ use Rattle.transfer.proofs.Checking.{Movable, moving}
 use Rattle.transfer.proofs.BookShifted.{case_injection, shifted_book}
 use Rattle.demands.proofs.Ends.{TransferDone, transfer_done, is_accepted}
 use Rattle.demands.proofs.Demand3.{Stands, stands_passed, transfer_stands}
-use Rattle.demands.proofs.SameBook.{book_shows}
 use Rattle.demands.proofs.OutAndBack.{Undone}
 use Rattle.demands.proofs.Transfers.{transfer_up, transfer_down, transfer_buses}
 
@@ -151,5 +151,5 @@ load_there_and_back {percent} {up} {down} {kw} {before} {mid} {after} {r} {s} t 
     (rw g.moved.book_is (injections_bytes mid.book down up (risen mid.book down kw) (fallen mid.book up kw) g.moved.bytes))
     there.moved.bytes g.moved.book_accepted there.passes.passes.book
     (ap book_of g.moved.book_is ∙ book_back e a t) in
-    let y = (transfer_stands m f x).table_true in
-    record { goes_back = x; as_before = book_shows percent after before same y t; table_true = y }
+    let y = subst (λ (l : List ℕ). TrueTable (case_in percent l) after.flow after.table) same (transfer_stands m f x).table_true in
+    record { goes_back = x; same_book = same; table_true = y; same_shown = tables_agree (case_in percent bs) _ _ _ _ y t }

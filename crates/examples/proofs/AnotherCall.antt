@@ -26,10 +26,10 @@ use Rattle.demands.specs.Run.{Run, returned}
 use Rattle.demands.proofs.Ends.{is_accepted, back_done}
 use Rattle.demands.proofs.Returns.{return_accepted}
 use Rattle.examples.specs.Row.{Refuses}
-use Rattle.examples.specs.Table.{triangle, trio, marked_rows}
+use Rattle.examples.specs.Table.{triangle, trio, marked_rows, order_rows}
 use Rattle.examples.proofs.Tests.{well_test, well_sound}
 use Rattle.examples.proofs.OnBook.{of_bytes}
-use Rattle.examples.proofs.Marked.{row_in, marked_examples, then_refused}
+use Rattle.examples.proofs.Marked.{row_in, marked_examples, order_examples, then_refused}
 
 -- ---- Branches 0 and 2 of the trio: 0 is refused at the first call by 10; in the other order 2 is accepted, and 0 refused at the second by 20.
 pub at_another_call : (f : Form) (flow : List ℤ) (table : List ℕ) (one other too : Lent) (r r' s' : Answer)
@@ -38,9 +38,9 @@ pub at_another_call : (f : Form) (flow : List ℤ) (table : List ℕ) (one other
     → TakeEnds 100 2 (lent (encode (trio f 1)) flow table) other r' → TakeEnds 100 0 other too s'
     → Refuses 10 (0 ∷ []) (lent (encode (trio f 1)) flow table) one r × ((r' ≡ accepted) × Refuses 20 (0 ∷ []) other too s')
 at_another_call f flow table one other too r r' s' run e g h = (
-  marked_examples f _ (row_in (marked_rows f) 21 (omega arith)) flow table one r run e,
+  order_examples f _ (row_in (order_rows f) 0 (omega arith)) flow table one r run e,
   then_refused 100 (trio f 1) (trio f 0) 2 0 20 _ (0 ∷ []) refl
-      (marked_examples f _ (row_in (marked_rows f) 22 (omega arith))) (marked_examples f _ (row_in (marked_rows f) 23 (omega arith)))
+      (order_examples f _ (row_in (order_rows f) 1 (omega arith))) (order_examples f _ (row_in (order_rows f) 2 (omega arith)))
       flow table other too r' s' run g h,
 )
 
@@ -67,6 +67,6 @@ only_after_return f flow table one other too r r' s' run e g h =
     (back_done g back).brought.book_is ∙ encode_status (open_ring f) (well_open f) 0 1 (omega arith) (omega arith) in
     let q : other ≡ lent (encode (triangle f 1000 30 1 1)) other.flow other.table =
     ap (λ (bs : List ℕ). lent bs other.flow other.table) closed in
-    let t = marked_examples f _ (row_in (marked_rows f) 24 (omega arith)) other.flow other.table too s'
+    let t = order_examples f _ (row_in (order_rows f) 3 (omega arith)) other.flow other.table too s'
     (subst (Run 100) q (returned 0 run g back)) (subst (λ (l : Lent). TakeEnds 100 1 l too s') q h) in
     (marked_examples f _ (row_in (marked_rows f) 4 (omega arith)) flow table one r run e, (back, is_accepted t.answer))

@@ -53,7 +53,7 @@ use Rattle.demands.proofs.Calls.{call_true}
 use Rattle.demands.proofs.Demand3.{run_true, run_posed, run_fits, call_checked}
 use Rattle.examples.specs.Row as row
 use Rattle.examples.specs.Row.{Sight, group_bytes, sight_bytes, Row, shows, takes, keeps, meters, Shows, Refuses, Takes, Holds}
-use Rattle.examples.specs.Table.{triangle, marked_rows, summer_rows}
+use Rattle.examples.specs.Table.{triangle, marked_rows, order_rows, summer_rows}
 use Rattle.examples.proofs.Tests.{well_test, well_sound, same_rows, same_numbers, same_sound, same_books, books_sound, long_group, bytes_group}
 use Rattle.examples.proofs.Tests.{inside_test, overload_test, overload_sound, no_excess_test, no_excess_sound, missing_test, sight_test, sight_sound}
 
@@ -238,6 +238,7 @@ pub rows_sound : (percent : ℕ) → percent_out percent ≡ false → (xs : Lis
 unfolding rows_test
 rows_sound p i (y ∷ ys) t x (Memᴰ.head e) = subst (Holds p) (sym e) (row_sound p i y (and_left _ _ t))
 rows_sound p i (y ∷ ys) t x (Memᴰ.tail m) = rows_sound p i ys (and_right _ _ t) x m
+rows_sound p i [] t x x4 = elim x4 [ ]
 
 pub row_in : (xs : List Row) (k : ℕ) → k < length xs → Memᴰ (get_or xs k (shows (triangle Old 1000 30 1 1) [])) xs
 row_in [] k u = absurd (omega arith)
@@ -249,6 +250,12 @@ pub marked_examples : (f : Form) (x : Row) → Memᴰ x (marked_rows f) → Hold
 unfolding rows_test row_test ◌&◌ ◌⇒◌ every some up_to over sum bit_at with_bit set_bit every_group most_test smallest_test branch_fault case_of too_far answer_to group_bytes missing_test together
     well_test same_rows same_books inside_test overload_test no_excess_test sight_test
 marked_examples f = rows_sound 100 full_in_range (marked_rows f) refl
+
+-- The rows of the order of switchings hold in either form.
+pub order_examples : (f : Form) (x : Row) → Memᴰ x (order_rows f) → Holds 100 x
+unfolding rows_test row_test ◌&◌ ◌⇒◌ every some up_to over sum bit_at with_bit set_bit every_group most_test smallest_test branch_fault case_of too_far answer_to group_bytes missing_test together
+    well_test same_rows same_books inside_test overload_test no_excess_test sight_test
+order_examples f = rows_sound 100 full_in_range (order_rows f) refl
 
 -- The books in summer hold at 80.
 pub summer_examples : (x : Row) → Memᴰ x summer_rows → Holds 80 x

@@ -1,5 +1,5 @@
--- Document 01's marked examples (a) to (l), as document 02 amends (b) and (i), and some of our own, in either form, of the order of switchings too;
--- books of two figures a branch, which the new form alone holds; and books in summer.
+-- Document 01's marked examples (a) to (l), as document 02 amends (b) and (i), and four of our own, in either form; books of two figures a branch,
+-- which the new form alone holds; the order of two switchings; and books in summer.
 use Rattle.std.specs.Prelude.{List, [], ◌∷◌, ℕ, ℤ, pos, neg_ℤ}
 use Rattle.quantity.specs.Rating.{in_kva}
 use Rattle.layout.specs.declared.Form.{Form}
@@ -122,8 +122,13 @@ marked_rows f =
     -- short by the whole flow, with a branch of limit 0 that joins the ends, and without it; the spur without flow carries
     ∷ shows (spur f 1) (short 20 (0 ∷ []) ∷ carries ∷ carries ∷ [])
     ∷ shows (spur f 0) (islands 20 (0 ∷ []) ∷ out ∷ carries ∷ [])
+    ∷ []
+
+-- The order of two switchings.
+abbrev pub order_rows : Form → List Row
+order_rows f =
     -- branches 0 and 2 in either order: 0 is refused at once, or after 2, which is accepted, and then by more
-    ∷ keeps (trio f 1) 0 10 (0 ∷ [])
+    keeps (trio f 1) 0 10 (0 ∷ [])
     ∷ takes (trio f 1) 2 (trio f 0) (short 20 (0 ∷ []) ∷ short 20 (0 ∷ []) ∷ out ∷ [])
     ∷ keeps (trio f 0) 0 20 (0 ∷ [])
     -- the outage that (c) refuses is accepted where branch 0 has come back first

@@ -1,4 +1,6 @@
 // The quantities of the book and the meters: ratings in kVA, power in kW, signed numbers by their parts, registers.
+#![tactic(auto)]
+
 ghost use Rattle.std.specs.Prelude.{◌≡◌, ◌+◌, ◌-◌, ◌≤◌, pos, ◌-ℤ◌};
 ghost use Rattle.rows.specs.Sum.{pick};
 ghost use Rattle.quantity.specs.Signed.{pos_part, neg_part, is_neg, of_size};

@@ -39,7 +39,7 @@ apart x y e k p q = omega (arith, low_and x y k, ap (λ (n : ℕ). low n k) e, l
 
 pub together : (x y : ℕ) → x < 256 → y < 256 → (bit_and x y ≡ 0 → ⊥) → ((k : ℕ) → k < 8 → low x k ≡ 1 → low y k ≡ 1 → ⊥) → ⊥
 together x y hx hy n h =
-    n (low_ext 8 (bit_and x y) 0 (omega (arith, and_lt 8 x y hx hy)) (λ k l. none k l (low x k) (low y k) refl refl))
+    n (low_ext 8 (bit_and x y) 0 (and_lt 8 x y hx hy) (omega arith) (λ k l. none k l (low x k) (low y k) refl refl))
   where
     none : (k : ℕ) → k < 8 → (a b : ℕ) → low x k ≡ a → low y k ≡ b → low (bit_and x y) k ≡ low 0 k
     none k l zero b p q = omega (arith, low_and x y k, low_zero k)

@@ -1,4 +1,6 @@
 // What every crate above wants: rows, sums over a group, bits.
+#![tactic(auto)]
+
 ghost use Rattle.std.specs.Prelude.{◌≡◌, ◌+◌, ◌<◌, ◌≤◌, length};
 ghost use Rattle.rows.specs.Row.{two_at};
 

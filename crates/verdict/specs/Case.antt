@@ -26,7 +26,26 @@ pub record Posed (C : Case) : Type 0 where
   pub rated : (k : ℕ) → k < C.branches → C.loss_limit k ≤ 1000000
   pub rising : (k : ℕ) → k < C.branches → C.limit k ≤ C.loss_limit k
 
--- The case with these statuses; with that of branch b changed; with b out of service; with b back in service; with all of a group out of service.
+-- The case with the status of branch b changed; with b out of service; with b back in service.
+abbrev pub with_status : Case → ℕ → Bool → Case
+with_status C b s = record {
+  buses = C.buses;
+  branches = C.branches;
+  first = C.first;
+  second = C.second;
+  served = λ k. cond (eqb k b) s (C.served k);
+  injection = C.injection;
+  limit = C.limit;
+  loss_limit = C.loss_limit;
+}
+
+abbrev pub out : Case → ℕ → Case
+out C b = with_status C b false
+
+abbrev pub back : Case → ℕ → Case
+back C b = with_status C b true
+
+-- The case with these statuses; with all of a group out of service.
 abbrev pub with_statuses : Case → (ℕ → Bool) → Case
 with_statuses C served = record {
   buses = C.buses;
@@ -38,15 +57,6 @@ with_statuses C served = record {
   limit = C.limit;
   loss_limit = C.loss_limit;
 }
-
-abbrev pub with_status : Case → ℕ → Bool → Case
-with_status C b s = with_statuses C (λ k. cond (eqb k b) s (C.served k))
-
-abbrev pub out : Case → ℕ → Case
-out C b = with_status C b false
-
-abbrev pub back : Case → ℕ → Case
-back C b = with_status C b true
 
 abbrev pub out_all : Case → Group → Case
 out_all C T = with_statuses C (λ k. C.served k && not (T k))

@@ -1,7 +1,6 @@
 -- `count` sums the ones of the group's bytes.
 use borrow.Author.Rules.{rules}
 use native.Mathlib.Omega.{arith}
-use Prim.Native.Nat.{◌-◌}
 use Rattle.bits.proofs.Counting.{ones_few, counting_none, counting_room, counting_more, counted}
 use Rattle.bits.proofs.count.Goals as goal
 

@@ -1,6 +1,6 @@
 -- `put` leaves the low bits of the number in the bits from its place on: the last bit first, and each step by one law.
 use mathlib.Core.Path.{◌≡◌}
-use Prim.Native.Nat.{◌-◌, ◌≤◌}
+use Prim.Native.Nat.{◌≤◌}
 use lib.ListN.{length}
 use Rattle.bits.specs.Field.{put}
 use Rattle.bits.proofs.put.Given as goal

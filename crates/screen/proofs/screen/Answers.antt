@@ -36,7 +36,6 @@ rows_of-requires c =
     let lent_flow : List ℤ = c.args.flow.now in
     let lent_table : List ℕ = c.args.table.now in
     let rate : ℕ = c.args.percent in
-    -- ---- What holds there.
     let ok : lent_check rate bytes (length lent_flow) (length lent_table) ≡ Accepted = sym c.check_lent-found.ensures ∙ c.in-Accepted.is in
     let passes : Passed rate bytes (length lent_flow) (length lent_table) = passed bytes (length lent_flow) (length lent_table) ok in
     let full : rate ≤ 100 = full_at_most passes.in_range in
@@ -48,7 +47,6 @@ prepare-plan-requires c =
     let lent_flow : List ℤ = c.args.flow.now in
     let lent_table : List ℕ = c.args.table.now in
     let rate : ℕ = c.args.percent in
-    -- ---- What holds there.
     let ok : lent_check rate bytes (length lent_flow) (length lent_table) ≡ Accepted = sym c.check_lent-found.ensures ∙ c.in-Accepted.is in
     let passes : Passed rate bytes (length lent_flow) (length lent_table) = passed bytes (length lent_flow) (length lent_table) ok in
     let well : WellFormed (book_of bytes) = accepted_well bytes passes.book in
@@ -61,7 +59,6 @@ base_flow-base-requires c =
     let made : Plan = c.prepare-plan.result in
     let lent_flow : List ℤ = c.args.flow.now in
     let lent_table : List ℕ = c.args.table.now in
-    -- ---- What holds there.
     let ok : lent_check rate bytes (length lent_flow) (length lent_table) ≡ Accepted = sym c.check_lent-found.ensures ∙ c.in-Accepted.is in
     let passes : Passed rate bytes (length lent_flow) (length lent_table) = passed bytes (length lent_flow) (length lent_table) ok in
     let full : rate ≤ 100 = full_at_most passes.in_range in
@@ -77,7 +74,6 @@ returns-in-Short c =
     let rate : ℕ = c.args.percent in
     let lent_flow : List ℤ = c.args.flow.now in
     let lent_table : List ℕ = c.args.table.now in
-    -- ---- What holds there.
     let ok : lent_check rate bytes (length lent_flow) (length lent_table) ≡ Accepted = sym c.check_lent-found.ensures ∙ c.in-Accepted.is in
     let made : Plan = c.prepare-plan.result in
     let passes : Passed rate bytes (length lent_flow) (length lent_table) = passed bytes (length lent_flow) (length lent_table) ok in
@@ -101,7 +97,6 @@ fill_flow-requires c =
     let made : Plan = c.prepare-plan.result in
     let lent_flow : List ℤ = c.args.flow.now in
     let lent_table : List ℕ = c.args.table.now in
-    -- ---- What holds there.
     let ok : lent_check rate bytes (length lent_flow) (length lent_table) ≡ Accepted = sym c.check_lent-found.ensures ∙ c.in-Accepted.is in
     let passes : Passed rate bytes (length lent_flow) (length lent_table) = passed bytes (length lent_flow) (length lent_table) ok in
     let full : rate ≤ 100 = full_at_most passes.in_range in
@@ -122,7 +117,6 @@ raise-raised-requires c =
     let made : Plan = c.prepare-plan.result in
     let lent_flow : List ℤ = c.args.flow.now in
     let lent_table : List ℕ = c.args.table.now in
-    -- ---- What holds there.
     let ok : lent_check rate bytes (length lent_flow) (length lent_table) ≡ Accepted = sym c.check_lent-found.ensures ∙ c.in-Accepted.is in
     let passes : Passed rate bytes (length lent_flow) (length lent_table) = passed bytes (length lent_flow) (length lent_table) ok in
     let full : rate ≤ 100 = full_at_most passes.in_range in
@@ -146,7 +140,6 @@ rewrite-requires c =
     let bytes : List ℕ = c.args.book.now in
     let rate : ℕ = c.args.percent in
     let lent_flow : List ℤ = c.args.flow.now in
-    -- ---- What holds there.
     let ok : lent_check rate bytes (length lent_flow) (length lent_table) ≡ Accepted = sym c.check_lent-found.ensures ∙ c.in-Accepted.is in
     let passes : Passed rate bytes (length lent_flow) (length lent_table) = passed bytes (length lent_flow) (length lent_table) ok in
     let full : rate ≤ 100 = full_at_most passes.in_range in
@@ -171,7 +164,6 @@ returns c =
     let lent_flow : List ℤ = c.args.flow.now in
     let lent_table : List ℕ = c.args.table.now in
     let rate : ℕ = c.args.percent in
-    -- ---- What holds there.
     let ok : lent_check rate bytes (length lent_flow) (length lent_table) ≡ Accepted = sym c.check_lent-found.ensures ∙ c.in-Accepted.is in
     let made : Plan = c.prepare-plan.result in
     let passes : Passed rate bytes (length lent_flow) (length lent_table) = passed bytes (length lent_flow) (length lent_table) ok in

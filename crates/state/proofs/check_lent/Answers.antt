@@ -17,13 +17,11 @@ returns-then-percent_out c = c.refuse.ensures ∙ by_percent _ _ _ _ (sym c.perc
 
 pub returns-in_default : goal.returns-in_default
 returns-in_default c =
-    -- ---- What holds there.
     let in_range : percent_out c.args.percent ≡ false = sym c.percent_out.ensures ∙ c.if-percent_out.false in
     by_book _ _ _ _ in_range _ c.check_with-found.ensures c.in_default.not-Accepted
 
 pub returns-then-flows-h : goal.returns-then-flows-h
 returns-then-flows-h c =
-    -- ---- What holds there.
     let in_range : percent_out c.args.percent ≡ false = sym c.percent_out.ensures ∙ c.if-percent_out.false in
     let bytes : List ℕ = c.args.book.now in
     let ok : check_of bytes ≡ Accepted = sym c.check_with-found.ensures ∙ c.in-Accepted.is in
@@ -39,7 +37,6 @@ overflow_mul-h c =
 
 pub returns-then-bytes-h : goal.returns-then-bytes-h
 returns-then-bytes-h c =
-    -- ---- What holds there.
     let in_range : percent_out c.args.percent ≡ false = sym c.percent_out.ensures ∙ c.if-percent_out.false in
     let bytes : List ℕ = c.args.book.now in
     let ok : check_of bytes ≡ Accepted = sym c.check_with-found.ensures ∙ c.in-Accepted.is in
@@ -48,7 +45,6 @@ returns-then-bytes-h c =
 
 pub returns : goal.returns
 returns c =
-    -- ---- What holds there.
     let in_range : percent_out c.args.percent ≡ false = sym c.percent_out.ensures ∙ c.if-percent_out.false in
     let bytes : List ℕ = c.args.book.now in
     let ok : check_of bytes ≡ Accepted = sym c.check_with-found.ensures ∙ c.in-Accepted.is in
