@@ -1,5 +1,6 @@
 -- The first places of a space, lent to a call: the call's promise holds of them, and what stands beyond them is as it was.
 use mathlib.Core.Path.{◌≡◌, refl, ap, ◌∙◌}
+use mathlib.Core.Bool.{true}
 use mathlib.Core.List.{List}
 use Prim.Native.Nat.{ℕ, ◌-◌, ◌≤◌}
 use native.Mathlib.Omega.{arith}
@@ -16,7 +17,10 @@ use Rattle.book.specs.Read.{BookRead}
 use Rattle.forms.specs.Move.{BookMoved}
 use Rattle.meters.specs.Registers.{Registers}
 use Rattle.meters.specs.Promise.{Metered}
-use Rattle.tables.specs.Inside.{ReadInto, WrittenInto, MovedInto, MeteredInto}
+use Rattle.rows.specs.Row.{two_at}
+use Rattle.spaces.specs.declared.Next.{Next}
+use Rattle.tables.specs.Inside.{ReadInto, WrittenInto, MovedInto, MeteredInto, WriteRun, write_good, ran}
+use Rattle.tables.proofs.Failed.{by_outcome}
 
 -- A space of which the first n places now hold `last`.
 pub record Part {A : Type 0} (n : ℕ) (t t' last : List A) : Type 0 where
@@ -92,6 +96,11 @@ module _ {f : Form} {n m factor : ℕ} {injections : List ℤ} {branches book bo
     within = h;
   }
 
+  -- Accepted or not, the book then has some length.
+  pub written_anyhow : (r.outcome ≡ Accepted → bytes_for f n m ≤ length book) → bytes ≤ length book
+      → (held : ℕ) × WrittenInto f n m factor injections branches room book bytes book' held
+  written_anyhow fits h = by_outcome r.outcome (λ a. (bytes_for f n m, written_into a refl (fits a))) (λ z. (bytes, not_written z h))
+
 pub written_as : {f : Form} {n m factor n' m' factor' i j room i' j' room' bytes length' : ℕ}
     (injections : List ℤ) (branches : List ℕ) {book book' : List ℕ}
     → n ≡ n' → m ≡ m' → factor ≡ factor' → i ≡ i' → j ≡ j' → room ≡ room'
@@ -101,3 +110,10 @@ written_as {i = i} {j} injections branches a b c d e g w =
     let x : i - 0 ≡ i = omega arith in
     let y : j - 0 ≡ j = omega arith in
     rw (← a, ← b, ← c, ← d, ← e, ← g) (rw (x, y) at w)
+
+-- A good `W` or `X` takes its 13 bytes, whatever length the book then has.
+pub write_ran : {f : Form} (rest : List ℕ) (injections : List ℤ) (branches : List ℕ) {book : List ℕ} {bytes : ℕ} {book' : List ℕ} {held : ℕ}
+    → write_good rest (length injections) (length branches) (length book) ≡ true
+    → WrittenInto f (two_at rest 1) (two_at rest 3) (two_at rest 5) (take (two_at rest 7) injections) (take (two_at rest 9) branches) (two_at rest 11) book bytes book' held
+    → (r : Next) × (r.taken ≡ 13) × WriteRun f rest injections branches book bytes book' r
+write_ran rest injections branches {held = held} g w = (record { taken = 13; bytes = held }, refl, ran g refl w)

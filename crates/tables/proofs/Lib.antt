@@ -1,3 +1,4 @@
+pub mod Failed
 pub mod LentFromStart
 pub mod MeterCommand
 pub mod MoveCommand
