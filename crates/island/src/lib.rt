@@ -1,5 +1,7 @@
 // Which buses open branches join, whatever their limits.
 // A branch is open where its number in the row `ways` is above 0. What is public here serves the crates above alone, which meet what it requires.
+#![tactic(auto)]
+
 ghost use Rattle.std.specs.Prelude.{◌≡◌, ◌&&◌, ◌<◌};
 ghost use Rattle.rows.specs.Row.{nth, some};
 ghost use Rattle.rows.specs.Bit.{has};

@@ -1,5 +1,7 @@
 // The flow of a lost branch is rerouted over named branches alone where these can take it, and else over all.
 // What is public here serves the crates above alone, which meet what it requires.
+#![tactic(auto)]
+
 ghost use Rattle.std.specs.Prelude.{◌≤◌};
 ghost use Rattle.reroute.specs.InsideVerdicts.{Losable};
 ghost use Rattle.replace.specs.Inside.{Chosen, CarriesWith, Replaced};

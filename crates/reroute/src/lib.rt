@@ -1,6 +1,8 @@
 // Surplus that is left at some buses is moved to deficits at others, route by route, over the latent capacities of a network.
 // From that follow three verdicts: on a network as it is, after the loss of one branch, and after one bus brings more and another less.
 // What is public here serves the crates above alone, which meet what it requires.
+#![tactic(auto)]
+
 ghost use Rattle.reroute.specs.InsideMoves.{total, Reroutable, Reroutes};
 ghost use Rattle.reroute.specs.InsideVerdicts.{Basic, Based, Losable, Lost, Deliverable, Delivered};
 ghost use Rattle.reroute.specs.Inside.{role_of, Roles, Movable, Moves, Summable, Judged, Opened, cut_at, rest_between};

@@ -1,5 +1,4 @@
 -- The roles of the first v buses are in the row.
-use Prim.Native.Nat.{◌-◌}
 use Rattle.reroute.proofs.Casting.{casting_none, casting_more, casting_end}
 use Rattle.reroute.proofs.roles.Goals as goal
 

@@ -138,10 +138,10 @@ loop-wires-preserved c =
     let G = c.loop-wires.invariant in
     let on = c.if-mark-eq1.false in
     elim c.if-far-at.branch [
-    then-far-at w ↦
-    let room = forth_room G on w.if-far-at.true in
-    rw (w.latent-is, w.at-is) (going_forth G on w.if-far-at.true _ _ (omega arith) (omega arith))
-    | else-far-at w ↦
-    let room = back_room G on w.if-far-at.false in
-    rw (w.latent-is, w.at-is) (going_back G on w.if-far-at.false _ _ (omega arith) (omega arith))
+      | then-far-at w ↦
+          let room = forth_room G on w.if-far-at.true in
+          rw (w.latent-is, w.at-is) (going_forth G on w.if-far-at.true _ _ (omega arith) (omega arith))
+      | else-far-at w ↦
+          let room = back_room G on w.if-far-at.false in
+          rw (w.latent-is, w.at-is) (going_back G on w.if-far-at.false _ _ (omega arith) (omega arith))
     ]

@@ -1,5 +1,4 @@
 -- The first v numbers are summed.
-use Prim.Native.Nat.{◌-◌}
 use native.Mathlib.Omega.{arith}
 use Rattle.reroute.proofs.Casting.{summing_none, summing_fits, summing_more, summing_end}
 use Rattle.reroute.proofs.sum.Goals as goal

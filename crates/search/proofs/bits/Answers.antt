@@ -1,5 +1,4 @@
 -- The first j bytes are filled.
-use Prim.Native.Nat.{◌-◌}
 use Rattle.search.proofs.Bytes.{first_bytes_none, first_bytes_more, first_bytes_end}
 use Rattle.search.proofs.bits.Goals as goal
 

@@ -1,5 +1,4 @@
 -- After i turns the first i bits stand in x.
-use Prim.Native.Nat.{◌-◌}
 use native.Mathlib.Omega.{arith}
 use Rattle.search.proofs.Bytes.{first_bits_none, first_bits_room, first_bits_fits, first_bits_more, first_bits_end}
 use Rattle.search.proofs.byte.Goals as goal

@@ -1,8 +1,8 @@
 -- The scan: every queued bus's branches are walked once, in rising number. The laws of `Scan` carry it; each way out is one law of `Answering`.
-use Prim.Native.Nat.{◌-◌, ◌<◌}
+use Prim.Native.Nat.{◌<◌}
 use mathlib.Core.Path.{refl}
 use native.Mathlib.Omega.{arith}
-use borrow.Author.Tests.{eqb-true, eqb-false}
+use borrow.Author.Tests.{eqb-true}
 use Rattle.rows.specs.Row.{nth}
 use Rattle.search.proofs.Scan.{scan_start, here_bus, turn_start, here_origin, turn_next, far_row}
 use Rattle.search.proofs.Scan.{turn_skip, turn_room, turn_tree, turn_hit, turn_mark, turn_end}
@@ -79,9 +79,9 @@ bounds-tree-here-then-tree-to-eq0 c =
     -- The bus at hand and the bus that a branch leads to stand in the rows, and a new bus finds a place in the queue.
     let bus_here : nth c.scan.tree.queue c.scan.at < 128 = here_bus c.scan.invariant c.if-at-tree.false in
     omega (
-  arith,
-  bus_here,
-)
+      arith,
+      bus_here,
+    )
 
 pub overflow_cast-start : goal.overflow_cast-start
 overflow_cast-start c = omega (arith, here_origin c.loop-side.invariant)
@@ -166,14 +166,14 @@ loop-side-preserved c =
     let R = c.loop-side.invariant in
     let s = c.away-spare.ensures in
     elim c.if-spare-gt0.branch [
-    then-spare-gt0+then-tree-to-eq0+else-roles-to-eq2 w ↦
-    turn_mark R in_row refl refl s w.if-spare-gt0.true w.if-tree-to-eq0.true _ w.smaller-least.ensures w.if-roles-to-eq2.false w.tree-is
-    | else-spare-gt0 w ↦
-    rw w.tree-is (turn_skip R in_row refl refl s (
-      elim w.else-spare-gt0.branch [
-      else-spare-gt0-via-then-spare-gt0+else-tree-to-eq0 u ↦ λ g. u.if-tree-to-eq0.false
-      | else-spare-gt0-via-else-spare-gt0 u ↦ λ g. absurd (omega arith)
-      ]))
+      | then-spare-gt0+then-tree-to-eq0+else-roles-to-eq2 w ↦
+          turn_mark R in_row refl refl s w.if-spare-gt0.true w.if-tree-to-eq0.true _ w.smaller-least.ensures w.if-roles-to-eq2.false w.tree-is
+      | else-spare-gt0 w ↦
+          rw w.tree-is (turn_skip R in_row refl refl s (
+          elim w.else-spare-gt0.branch [
+            | else-spare-gt0-via-then-spare-gt0+else-tree-to-eq0 u ↦ λ g. u.if-tree-to-eq0.false
+            | else-spare-gt0-via-else-spare-gt0 u ↦ λ g. absurd (omega arith)
+          ]))
     ]
 
 pub scan-preserved : goal.scan-preserved
@@ -182,14 +182,14 @@ scan-preserved c = turn_end c.loop-side.invariant (omega arith)
 pub returns : goal.returns
 returns c =
     elim c.if-at-tree.branch [
-    then-at-tree w ↦ searched_group c.scan.invariant w.if-at-tree.true c.packed.ensures w.tree-is w.answer-is
-    | else-at-tree+then-loop-side-test+then-spare-gt0+then-tree-to-eq0+then-roles-to-eq2 w ↦
-    let R = w.loop-side.invariant in
-    let t = w.loop-side-test.true in
-    let z = w.if-tree-to-eq0.true in
-    searched_route
-    (turn_tree R t refl refl w.away-spare.ensures w.if-spare-gt0.true z _ w.smaller-least.ensures)
-    (turn_hit R t refl refl w.away-spare.ensures w.if-spare-gt0.true z _ w.smaller-least.ensures w.if-roles-to-eq2.true)
-    (stopped _ _ R.scan (turn_room R t refl refl w.away-spare.ensures w.if-spare-gt0.true z _ w.smaller-least.ensures))
-    c.packed.ensures w.tree-is w.answer-is
+      | then-at-tree w ↦ searched_group c.scan.invariant w.if-at-tree.true c.packed.ensures w.tree-is w.answer-is
+      | else-at-tree+then-loop-side-test+then-spare-gt0+then-tree-to-eq0+then-roles-to-eq2 w ↦
+          let R = w.loop-side.invariant in
+          let t = w.loop-side-test.true in
+          let z = w.if-tree-to-eq0.true in
+          searched_route
+          (turn_tree R t refl refl w.away-spare.ensures w.if-spare-gt0.true z _ w.smaller-least.ensures)
+          (turn_hit R t refl refl w.away-spare.ensures w.if-spare-gt0.true z _ w.smaller-least.ensures w.if-roles-to-eq2.true)
+          (stopped _ _ R.scan (turn_room R t refl refl w.away-spare.ensures w.if-spare-gt0.true z _ w.smaller-least.ensures))
+          c.packed.ensures w.tree-is w.answer-is
     ]

@@ -6,6 +6,6 @@ use Rattle.search.proofs.packed.Goals.{in-Route, in-Group}
 pub returns : goal.returns
 returns c =
     elim c.match-answer.branch [
-    in-Route w ↦ record { same_answer = refl; same_taken = refl; same_work = refl; shown = rw (w.in-Route.is, w.group-is) refl }
-    | in-Group w ↦ record { same_answer = refl; same_taken = refl; same_work = refl; shown = rw (w.in-Group.is, w.group-is) w.bits-group.ensures }
+      | in-Route w ↦ record { same_answer = refl; same_taken = refl; same_work = refl; shown = rw (w.in-Route.is, w.group-is) refl }
+      | in-Group w ↦ record { same_answer = refl; same_taken = refl; same_work = refl; shown = rw (w.in-Group.is, w.group-is) w.bits-group.ensures }
     ]

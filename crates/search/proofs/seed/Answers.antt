@@ -1,5 +1,4 @@
 -- The starts below v are marked and queued.
-use Prim.Native.Nat.{◌-◌}
 use borrow.Author.Rules.{rules}
 use Rattle.search.proofs.Sowing.{sow_none, sow_skip, sow_mark, sow_end}
 use Rattle.search.proofs.seed.Goals as goal
@@ -11,8 +10,8 @@ loop-v-init c = sow_none c.requires (search rules)
 pub loop-v-preserved : goal.loop-v-preserved
 loop-v-preserved c =
     elim c.if-roles-v-eq1.branch [
-    then-roles-v-eq1 w ↦ rw (w.marks-is, w.queue-is, w.origin-is, w.count-is) (sow_mark c.loop-v.invariant c.loop-v-test.true w.if-roles-v-eq1.true)
-    | else-roles-v-eq1 w ↦ rw (w.marks-is, w.queue-is, w.origin-is, w.count-is) (sow_skip c.loop-v.invariant c.loop-v-test.true w.if-roles-v-eq1.false)
+      | then-roles-v-eq1 w ↦ rw (w.marks-is, w.queue-is, w.origin-is, w.count-is) (sow_mark c.loop-v.invariant c.loop-v-test.true w.if-roles-v-eq1.true)
+      | else-roles-v-eq1 w ↦ rw (w.marks-is, w.queue-is, w.origin-is, w.count-is) (sow_skip c.loop-v.invariant c.loop-v-test.true w.if-roles-v-eq1.false)
     ]
 
 pub returns : goal.returns
