@@ -1,4 +1,6 @@
 // The packed book: read or refused. The rows that a screen works on: `cases`.
+#![tactic(auto)]
+
 ghost use Rattle.std.specs.Prelude.{◌≡◌, ◌*◌, ◌≤◌, length};
 ghost use Rattle.rows.specs.Row.{headed};
 ghost use Rattle.layout.specs.Fault.{first_fault};

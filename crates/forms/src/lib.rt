@@ -1,4 +1,6 @@
 // A packed book moved to the form asked for: the new one has a second rating a branch, the old one has one.
+#![tactic(auto)]
+
 ghost use Rattle.std.specs.Prelude.{◌≡◌, length};
 ghost use Rattle.rows.specs.Row.{some};
 ghost use Rattle.bits.specs.Fields.{put_items};

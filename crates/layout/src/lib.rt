@@ -1,4 +1,6 @@
 // The layout of a packed book in its two forms: header, buses and branches, each read and put beside each other, and which field is at fault.
+#![tactic(auto)]
+
 ghost use Rattle.std.specs.Prelude.{◌≡◌, [], ◌∷◌, ◌≤◌, ◌<◌};
 ghost use Rattle.layout.specs.Book.{size};
 ghost use Rattle.layout.specs.Fault.{bus_fault, branch_fault};

@@ -1,4 +1,6 @@
 // The packed book written: the tables beside it are checked, and packed.
+#![tactic(auto)]
+
 ghost use Rattle.std.specs.Prelude.{◌≡◌, ◌+◌, ◌*◌, ◌<◌, ◌≤◌, pos, ◌-ℤ◌, length, replicate};
 ghost use Rattle.answer.specs.declared.Place.TheVariants.{Nowhere};
 ghost use Rattle.answer.specs.declared.Outcome.TheVariants.{Accepted};

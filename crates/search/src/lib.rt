@@ -1,5 +1,7 @@
 // A breadth-first search over the latent capacities of a network of at most 128 buses and 256 branches.
 // What is public here serves the crates above alone, which meet what it requires.
+#![tactic(auto)]
+
 ghost use Rattle.search.specs.InsideLinks.{Linkable, Wiring};
 ghost use Rattle.search.specs.InsideSearch.{Bits, Searchable, Searched};
 ghost use Rattle.search.specs.Inside.{Blank, Seeded, flag_of, Byte, Packed};
