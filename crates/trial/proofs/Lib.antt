@@ -1,4 +1,5 @@
 pub mod CalledOnParts
+pub mod Failed
 pub mod MovedToFront
 pub mod NoPlace
 pub mod TransferCommand

@@ -55,3 +55,9 @@ refilled {l} {m} {at} {e} {i} {n} new u v p h long few =
       inside = rw (same_len_mid (e - at) (length m - (e - at)) m new long) (omega arith);
       kept = take_put (e - at) (length m - (e - at)) m new here ∙ rw all at p.moved;
     }
+
+-- All moved, and nothing said of what was read after it.
+pub left_in_front : {l m : List ℕ} {at e i : ℕ} (new : List ℕ) → at ≤ e → e ≤ length l → Moving l at (e - at) m i → e - at ≤ i → length new ≡ length (mid_of (e - at) (length m - (e - at)) m) → Refilled l at e (put_mid (e - at) (length m - (e - at)) m new) 0 (e - at)
+left_in_front {at = at} {e} new u v p h long =
+    let k : e - at + 0 ≡ e - at = omega arith in
+    rw k at (refilled {n = 0} new u v p h long (omega arith))
