@@ -50,7 +50,7 @@ const RANDOM: [(&str, usize); 10] = [
 
 #[test]
 fn the_stored_stream_holds_every_kind_of_order() {
-    let tally = tally_of(&stored::stream());
+    let tally = tally_of(&stored::stream_with_orders());
     for (kind, _) in KINDS {
         assert!(tally.of(&format!("orders of {kind}")) > 0, "{kind}\n{tally}");
     }
@@ -72,7 +72,7 @@ fn random_streams_hold_every_kind_of_order() {
 #[test]
 fn the_stored_stream_grew_by_46_dumps() {
     // The stream of then had 58,454 bytes, its last 3 a bad command.
-    let whole = stored::stream();
+    let whole = stored::stream_with_orders();
     let added: Vec<Command> = commands(&whole[58_451..]).map_while(Result::ok).collect();
     let count = |wanted: &dyn Fn(&Command) -> bool| added.iter().filter(|command| wanted(command)).count();
     let calls = ["screen", "out", "back"].map(|call| count(&|command| command.call() == Some(call)));

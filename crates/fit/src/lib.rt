@@ -1,5 +1,7 @@
 // Whether a lent flow fits: each number against its limit, and at each bus what comes against what goes.
 // What is public here serves the crates above alone, which meet what it requires.
+#![tactic(auto)]
+
 ghost use Rattle.std.specs.Prelude.{◌≡◌, ◌≤◌, length, eqb};
 ghost use Rattle.rows.specs.Row.{nth, every};
 ghost use Rattle.fit.specs.Inside.{Lendable, Measurable, Measured, Talliable, Tallied, Fitted};

@@ -1,4 +1,6 @@
 // Injections from the meter registers of one quarter hour.
+#![tactic(auto)]
+
 ghost use Rattle.std.specs.Prelude.{◌≡◌, ◌<◌};
 ghost use Rattle.rows.specs.Row.{headed};
 ghost use Rattle.meters.specs.Registers.{registers, buses, shape_of, imported, exported};

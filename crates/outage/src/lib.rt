@@ -1,4 +1,6 @@
 // Taking a branch out of service: the flow is rerouted, and the records on the shortlist are written anew.
+#![tactic(auto)]
+
 ghost use Rattle.std.specs.Prelude.{◌≡◌, ◌<◌, ◌≤◌};
 ghost use Rattle.answer.specs.Answer.{bare, overloaded};
 ghost use Rattle.state.specs.Call.{lent};

@@ -1,4 +1,6 @@
 // The stretch of a branch, 52 bytes out of the middle of the lent table: cut, written, read, and tested for the shortlist.
+#![tactic(auto)]
+
 ghost use Rattle.std.specs.Prelude.{◌≡◌, ◌+◌, ◌*◌, ◌≤◌, ◌<◌, eqb, length, take, drop};
 ghost use Rattle.verdict.specs.Record.{verdict_in};
 ghost use Rattle.record.specs.Inside.{Stretch, record_bytes, Read, listed};

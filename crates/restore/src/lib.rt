@@ -1,4 +1,6 @@
 // Bringing a branch back into service: the flow stays, and every record that didn't show its branch as carrying is written anew.
+#![tactic(auto)]
+
 ghost use Rattle.std.specs.Prelude.{◌≡◌, ◌*◌, ◌<◌, ◌≤◌, length};
 ghost use Rattle.state.specs.Call.{lent};
 ghost use Rattle.state.specs.Inside.{Listing};

@@ -1,4 +1,6 @@
 // The screen of a whole book: a base flow, and the record of every branch's loss.
+#![tactic(auto)]
+
 ghost use Rattle.state.specs.Call.{lent};
 ghost use Rattle.screen.specs.Promise.{ScreenEnds};
 

@@ -1,5 +1,7 @@
 // The shortlist of a call that changes flows: which records it writes anew.
 // What is public here serves the calls alone, which meet what it requires.
+#![tactic(auto)]
+
 ghost use Rattle.std.specs.Prelude.{◌≡◌, ◌*◌, ◌≤◌, length};
 ghost use Rattle.state.specs.Inside.{Listing};
 ghost use Rattle.shortlist.specs.Inside.{listed_if, listed_at};

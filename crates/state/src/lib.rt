@@ -1,5 +1,7 @@
 // What every call on a lent book shares: the checks before it, the rows of its case, and records written from them.
 // What is public here serves the calls alone, which meet what it requires.
+#![tactic(auto)]
+
 ghost use Rattle.std.specs.Prelude.{◌≡◌, ℕ, ◌+◌, ◌*◌, ◌<◌, ◌≤◌, ℤ, pos, ◌-ℤ◌, length};
 ghost use Rattle.rows.specs.Row.{nth, headed};
 ghost use Rattle.rows.specs.Bit.{has};

@@ -1,5 +1,7 @@
 // What taking a branch out and bringing one back share: the check of that branch, and the rows with its status switched.
 // What is public here serves these two calls alone, which meet what it requires.
+#![tactic(auto)]
+
 ghost use Rattle.std.specs.Prelude.{◌≡◌, ◌<◌};
 ghost use Rattle.switch.specs.Check.{branch_check};
 ghost use Rattle.switch.specs.Inside.{With};

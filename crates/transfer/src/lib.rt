@@ -1,4 +1,6 @@
 // Moving load between two buses: their injections change, power is rerouted between them, and the records on the shortlist are written anew.
+#![tactic(auto)]
+
 ghost use Rattle.std.specs.Prelude.{◌≡◌, ◌+◌, ◌≤◌};
 ghost use Rattle.state.specs.Call.{lent};
 ghost use Rattle.transfer.specs.Inside.{TwoBuses, Shiftable};

@@ -14,7 +14,7 @@ use crate::definitions::record;
 use crate::definitions::switching::Way;
 use crate::streams::under_way::Stream;
 use crate::streams::{
-    stored_forms, stored_islands, stored_loads, stored_percentages, stored_places, stored_ratings, stored_returns,
+    stored_forms, stored_islands, stored_loads, stored_orders, stored_percentages, stored_places, stored_ratings, stored_returns,
 };
 use crate::trial::stream::{Command, BOOK, FLOWS, INJECTIONS, NUMBERS, TABLE};
 
@@ -40,6 +40,17 @@ pub fn written(form: Form, [buses, count, factor, injections, branches, room]: [
 }
 
 pub fn stream() -> Vec<u8> {
+    ended(begun())
+}
+
+/// The stored stream with the part on the order of switchings, which is not stored yet.
+pub fn stream_with_orders() -> Vec<u8> {
+    let mut stream = begun();
+    stored_orders::add(&mut stream);
+    ended(stream)
+}
+
+fn begun() -> Stream {
     let mut stream = Stream::new(0);
     stream.dump_each_refused = true;
     stream.add(Command::Spoil);
@@ -61,7 +72,11 @@ pub fn stream() -> Vec<u8> {
     stored_percentages::add(&mut stream);
     stored_islands::add(&mut stream);
     stored_loads::add(&mut stream);
-    // A bad command stops a stream, so it stays the last.
+    stream
+}
+
+/// A bad command stops a stream, so it stays the last.
+fn ended(mut stream: Stream) -> Vec<u8> {
     stream.bytes.extend(b"F\x01\x00");
     stream.bytes
 }

@@ -1,7 +1,6 @@
 -- The loop over the branches: each number against its limit.
 use native.Mathlib.Omega.{arith}
 use mathlib.Core.Path.{◌≡◌}
-use Prim.Native.Nat.{◌-◌}
 use borrow.Author.Rules.{sfits_of}
 use mir.Facts.{to_z-of_z}
 use Rattle.quantity.specs.Signed.{pos_part, neg_part}

@@ -1,7 +1,6 @@
 -- Two rows agree at every bus, or not at the first where they differ.
 use native.Mathlib.Omega.{arith}
 use mathlib.Core.Path.{◌≡◌, sym}
-use Prim.Native.Nat.{◌-◌}
 use borrow.Author.Tests.{eq-eqb, ne_eqb}
 use Rattle.rows.proofs.Row.{every_none, every_more, every_not}
 use Rattle.fit.proofs.same_rows.Goals as goal

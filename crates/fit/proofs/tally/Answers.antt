@@ -2,7 +2,7 @@
 use borrow.Author.Rules.{rules}
 use native.Mathlib.Omega.{arith}
 use mathlib.Core.Path.{refl}
-use Prim.Native.Nat.{◌-◌, ◌<◌}
+use Prim.Native.Nat.{◌<◌}
 use Rattle.rows.specs.Row.{nth}
 use Rattle.fit.proofs.Tallying.{tallying_none, first_fits, second_fits, tallying_more, tallying_all}
 use Rattle.fit.proofs.tally.Goals as goal

@@ -1,6 +1,5 @@
 -- The scan stops at the first branch that leaves the group.
 use native.Mathlib.Omega.{arith}
-use Prim.Native.Nat.{◌-◌}
 use Rattle.island.proofs.Ways.{counted, uncounted, scanned_none, scanned_more, scanned_found, scanned_all}
 use Rattle.island.proofs.leaves.Goals as goal
 use Rattle.island.proofs.leaves.Goals.{then-served-j, else-served-j}

@@ -1,7 +1,7 @@
 -- `copy` leaves one stretch in the other.
 use native.Mathlib.Omega.{arith}
 use mathlib.Core.Path.{◌≡◌, refl, sym, ◌∙◌}
-use Prim.Native.Nat.{◌-◌, ◌<◌}
+use Prim.Native.Nat.{◌<◌}
 use lib.ListN.{length, length-set}
 use Rattle.rows.specs.Row.{nth}
 use Rattle.rows.proofs.Row.{headed_none, headed_more, headed_all}

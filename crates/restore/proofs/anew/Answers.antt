@@ -1,6 +1,5 @@
 -- The loop over the branches: each record is tested on its stretch.
 use native.Mathlib.Omega.{arith}
-use Prim.Native.Nat.{◌-◌}
 use Rattle.state.proofs.Noting.{noting_none, noting_set, noting_skip, noting_all}
 use Rattle.restore.proofs.ToBeWritten.{tested}
 use Rattle.restore.proofs.anew.Goals as goal
@@ -21,8 +20,8 @@ loop-k-preserved c =
     let s = c.stretch.ensures in
     let u = c.loop-k-test.true in
     elim c.if-is_anew.branch [
-    then-is_anew w ↦ rw (w.row-is, w.set_bit.ensures) (noting_set _ _ _ g u (tested _ _ _ c.is_anew.ensures s.its_bytes w.if-is_anew.true))
-    | else-is_anew w ↦ rw w.row-is (noting_skip _ _ _ g u (tested _ _ _ c.is_anew.ensures s.its_bytes w.if-is_anew.false))
+      | then-is_anew w ↦ rw (w.row-is, w.set_bit.ensures) (noting_set _ _ _ g u (tested _ _ _ c.is_anew.ensures s.its_bytes w.if-is_anew.true))
+      | else-is_anew w ↦ rw w.row-is (noting_skip _ _ _ g u (tested _ _ _ c.is_anew.ensures s.its_bytes w.if-is_anew.false))
     ]
 
 pub returns : goal.returns

@@ -1,6 +1,5 @@
 -- The loop over the branches: each record is tested on its stretch.
 use native.Mathlib.Omega.{arith}
-use Prim.Native.Nat.{◌-◌}
 use Rattle.state.proofs.Noting.{noting_none, noting_set, noting_skip, noting_all}
 use Rattle.shortlist.proofs.Shortlisting.{tested}
 use Rattle.shortlist.proofs.shortlist.Goals as goal
@@ -24,8 +23,8 @@ loop-k-preserved c =
     let s = c.stretch.ensures in
     let u = c.loop-k-test.true in
     elim c.if-is_listed.branch [
-    then-is_listed w ↦ rw (w.row-is, w.set_bit.ensures) (noting_set _ _ _ g u (tested _ _ _ _ c.is_listed.ensures s.its_bytes w.if-is_listed.true))
-    | else-is_listed w ↦ rw w.row-is (noting_skip _ _ _ g u (tested _ _ _ _ c.is_listed.ensures s.its_bytes w.if-is_listed.false))
+      | then-is_listed w ↦ rw (w.row-is, w.set_bit.ensures) (noting_set _ _ _ g u (tested _ _ _ _ c.is_listed.ensures s.its_bytes w.if-is_listed.true))
+      | else-is_listed w ↦ rw w.row-is (noting_skip _ _ _ g u (tested _ _ _ _ c.is_listed.ensures s.its_bytes w.if-is_listed.false))
     ]
 
 pub returns : goal.returns

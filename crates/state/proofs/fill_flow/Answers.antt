@@ -5,7 +5,7 @@ use mir.Val.{SFits}
 use mir.Facts.{to_z-of_z}
 use native.Mathlib.Omega.{arith}
 use mathlib.Core.Path.{◌≡◌, refl, sym}
-use Prim.Native.Nat.{◌-◌, ◌<◌}
+use Prim.Native.Nat.{◌<◌}
 use lib.ListN.{length, length-set}
 use lib.IntN.{pos, ◌-ℤ◌}
 use Rattle.rows.specs.Row.{nth}

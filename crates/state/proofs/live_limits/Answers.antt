@@ -1,6 +1,5 @@
 -- `live_limits` gives each branch in service its limit, and 0 to any other.
 use native.Mathlib.Omega.{arith}
-use Prim.Native.Nat.{◌-◌}
 use Rattle.state.proofs.BranchByBranch.{living_none, living_set, living_skip, living_all}
 use Rattle.state.proofs.live_limits.Goals as goal
 use Rattle.state.proofs.live_limits.Goals.{then-served-k, else-served-k}
@@ -13,8 +12,8 @@ loop-k-preserved c =
     let l = c.loop-k.invariant in
     let u = c.loop-k-test.true in
     elim c.if-served-k.branch [
-    then-served-k w ↦ rw w.live-is (living_set _ _ _ l u w.if-served-k.true)
-    | else-served-k w ↦ rw w.live-is (living_skip _ _ _ l u w.if-served-k.false)
+      | then-served-k w ↦ rw w.live-is (living_set _ _ _ l u w.if-served-k.true)
+      | else-served-k w ↦ rw w.live-is (living_skip _ _ _ l u w.if-served-k.false)
     ]
 
 pub returns : goal.returns

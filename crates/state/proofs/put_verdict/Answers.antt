@@ -2,7 +2,6 @@
 use borrow.Author.Rules.{rules}
 use native.Mathlib.Omega.{arith}
 use mathlib.Core.Path.{◌≡◌, sym, subst, ◌∙◌}
-use borrow.Author.Tests.{not-true, not-false}
 use lib.ListN.{length}
 use Rattle.state.proofs.TrueRecords.{judge_out, judge_still, judge_carries, judge_short, short_low, losable}
 use Rattle.verdict.specs.Island.{ShortNumber}
@@ -54,7 +53,7 @@ returns c C f s =
     (judge_short C f _ _ _ _ s _ _ _ _ (rw (← s.held.branches_are) there) (sym (s.held.served_is _) ∙ c.if-not-served-k.false)
     c.loss-judged.ensures c.in-Short.is whole_group
     (λ h. elim c.if-excess-apart.branch [
-    then-excess-apart w ↦ subst (ShortNumber C _) (sym w.number-is) (w.short_number-number.ensures C f _ _ s h)
-    | else-excess-apart w ↦
-    subst (ShortNumber C _) (sym w.number-is) (number_less C f _ _ _ _ s _ there _ _ h (λ q. w.if-excess-apart.false (q ∙ sym c.apart.ensures)))
+      | then-excess-apart w ↦ subst (ShortNumber C _) (sym w.number-is) (w.short_number-number.ensures C f _ _ s h)
+      | else-excess-apart w ↦
+          subst (ShortNumber C _) (sym w.number-is) (number_less C f _ _ _ _ s _ there _ _ h (λ q. w.if-excess-apart.false (q ∙ sym c.apart.ensures)))
     ]))

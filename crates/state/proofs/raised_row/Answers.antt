@@ -1,7 +1,6 @@
 -- `raised_row` raises each number of a row by as much as its limit rises.
 use borrow.Author.Rules.{rules}
 use native.Mathlib.Omega.{arith}
-use Prim.Native.Nat.{◌-◌}
 use Rattle.state.proofs.Raising.{raising_none, raising_more, raising_all}
 use Rattle.state.proofs.raised_row.Goals as goal
 

@@ -1,7 +1,6 @@
 -- The loop over the branches: listed records are written, the rest are passed.
 use native.Mathlib.Omega.{arith}
 use mathlib.Core.Path.{sym, ◌∙◌}
-use Prim.Native.Nat.{◌-◌}
 use lib.ListN.{length-take, length-drop}
 use Rattle.state.proofs.Rewriting.{going_none, going_kept, going_written, going_all}
 use Rattle.state.proofs.rewrite.Goals as goal
@@ -26,9 +25,9 @@ loop-k-preserved c =
     let g = c.loop-k.invariant in
     let u = c.loop-k-test.true in
     elim c.if-is_set.branch [
-    then-is_set w ↦
-    going_written _ _ _ _ _ g u (sym c.is_set.ensures ∙ w.if-is_set.true) w.put_verdict.ensures w.table-is (w.judged-is ∙ w.counted-judged.ensures)
-    | else-is_set w ↦ rw (w.table-is, w.judged-is) (going_kept _ _ _ _ _ g u (sym c.is_set.ensures ∙ w.if-is_set.false))
+      | then-is_set w ↦
+          going_written _ _ _ _ _ g u (sym c.is_set.ensures ∙ w.if-is_set.true) w.put_verdict.ensures w.table-is (w.judged-is ∙ w.counted-judged.ensures)
+      | else-is_set w ↦ rw (w.table-is, w.judged-is) (going_kept _ _ _ _ _ g u (sym c.is_set.ensures ∙ w.if-is_set.false))
     ]
 
 pub shape_of-table : goal.shape_of-table
