@@ -1,6 +1,8 @@
 // The screen, the outage call, the return, the move of load and that of a book to a form, with the answer in its parts: what `callable_c` exports
 // under C's calling convention, for programs in other languages to link.
 // The answer comes back as its number, its shortage, its group and its place. Item and field are both 0 where the answer has no place.
+#![tactic(auto)]
+
 ghost use Rattle.answer.specs.Answer.{place_of, no_group};
 ghost use Rattle.layout.specs.Form.{form_of};
 ghost use Rattle.forms.specs.Move.{BookMoved};

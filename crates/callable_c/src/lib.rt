@@ -1,6 +1,8 @@
 // The calls of `callable` under C's calling convention, for programs in other languages to link, each under its own name and with its own clauses.
 // A slice is a pointer and a length; the answer comes back as its number, its shortage, its group and its place. Item and field are both 0 where the
 // answer has no place.
+#![tactic(auto)]
+
 ghost use Rattle.answer.specs.Answer.{no_group};
 ghost use Rattle.layout.specs.Form.{form_of};
 ghost use Rattle.forms.specs.Move.{BookMoved};

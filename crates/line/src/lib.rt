@@ -1,4 +1,6 @@
 // A line built in lent bytes: its first places hold it so far, and each call adds to it and answers its new length.
+#![tactic(auto)]
+
 ghost use Rattle.std.specs.Prelude.{[], ◌∷◌, ◌+◌, ◌*◌, ◌≤◌, length};
 ghost use Rattle.line.specs.Text.{decimal_of, signed_of, hex_of, next_of, numbers_of, signeds_of, hexes_of};
 ghost use Rattle.line.specs.Inside.{Added};

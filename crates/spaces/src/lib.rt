@@ -1,4 +1,6 @@
 // The spaces that a stream of calls works on, and the commands that only set them. Each answers how many bytes of the stream it took, and 0 where it is bad.
+#![tactic(auto)]
+
 ghost use Rattle.std.specs.Prelude.{◌≡◌, ◌<◌, ◌≤◌, length};
 ghost use Rattle.rows.specs.Row.{nth};
 ghost use Rattle.spaces.specs.InsideStream.{four_at, signed_from};

@@ -1,5 +1,4 @@
 -- `put` adds the bytes of a text.
-use Prim.Native.Nat.{◌-◌}
 use Rattle.line.proofs.Adding.{copying_none, copying_more, copied}
 use Rattle.line.proofs.put.Goals as goal
 

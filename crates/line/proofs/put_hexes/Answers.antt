@@ -1,7 +1,6 @@
 -- `put_hexes` adds two hex digits for each byte.
 use borrow.Author.Rules.{rules}
 use native.Mathlib.Omega.{arith}
-use Prim.Native.Nat.{◌-◌}
 use Rattle.line.proofs.Adding.{joining_none, joining_more, joined_all}
 use Rattle.line.proofs.put_hexes.Goals as goal
 

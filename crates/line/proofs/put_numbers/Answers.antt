@@ -1,7 +1,6 @@
 -- `put_numbers` adds each number with a space before it.
 use borrow.Author.Rules.{rules}
 use native.Mathlib.Omega.{arith}
-use Prim.Native.Nat.{◌-◌}
 use Rattle.line.proofs.Adding.{joining_none, joining_more, joined_all}
 use Rattle.line.proofs.FewestDigits.{length_next}
 use Rattle.line.proofs.put_numbers.Goals as goal

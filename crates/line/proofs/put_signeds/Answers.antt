@@ -1,7 +1,6 @@
 -- `put_signeds` adds each signed number with a space before it.
 use borrow.Author.Rules.{rules, sfits_of}
 use native.Mathlib.Omega.{arith}
-use Prim.Native.Nat.{◌-◌}
 use lib.ListN.{get_or}
 use Rattle.line.proofs.Adding.{joining_none, joining_more, joined_all}
 use lib.IntN.{pos}

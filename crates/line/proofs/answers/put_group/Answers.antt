@@ -2,7 +2,6 @@
 use borrow.Author.Rules.{rules}
 use native.Mathlib.Omega.{arith}
 use mathlib.Core.Path.{sym, ◌∙◌}
-use Prim.Native.Nat.{◌-◌}
 use Rattle.line.proofs.Adding.{joining_none}
 use Rattle.line.proofs.Group.{member_in, member_out, group_added}
 use Rattle.line.proofs.answers.put_group.Goals as goal
