@@ -25,7 +25,7 @@ use Rattle.layout.specs.Book.{Book, WellFormed}
 use Rattle.layout.specs.Fault.{branch_fault}
 use Rattle.layout.specs.Layout.{encode}
 use Rattle.verdict.specs.Case.{Case, Posed, out, on, Fits}
-use Rattle.verdict.specs.Record.{record_at, verdict_in, names, TrueRecord, TrueTable}
+use Rattle.verdict.specs.Record.{record_at, verdict_in, TrueRecord, TrueTable}
 use Rattle.verdict.specs.Update.{Lent, Shortlisted, not_served, not_carrying, is_touched, names_touched}
 use Rattle.verdict.proofs.Fitting.{posed_status}
 use Rattle.record.specs.Inside.{record_bytes}

@@ -1,1 +1,3 @@
+#![tactic(auto)]
+
 // The table of marked examples, under one theorem. Theorems alone.

@@ -1,4 +1,6 @@
 // Document 01's program: reads a book from standard input and lists what each branch's loss would do. It fails where a read or a write does.
+#![tactic(auto)]
+
 use line::read_full;
 use std::io;
 

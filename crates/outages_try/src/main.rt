@@ -1,4 +1,6 @@
 // Runs the list of `outages` on several inputs: each has its length in two bytes before it, the high byte first. It fails where a read or a write does.
+#![tactic(auto)]
+
 use line::read_full;
 use std::io;
 

@@ -1,5 +1,7 @@
 // Document 01's list of a book, written to a printer, as standard output: each line is built whole (`lines`), with room for a newline, and written at
 // once. A call whose write fails writes no more, and answers with that error.
+#![tactic(auto)]
+
 ghost use Rattle.std.specs.Prelude.{◌≡◌, ◌+◌, ◌*◌, ◌≤◌, length, IfOk};
 ghost use Rattle.printing.specs.Lines.{head_text, branch_text, refused_text};
 ghost use Rattle.printing.specs.List.{accepted_text, Printed};

@@ -1,6 +1,8 @@
 // Commands on the tables beside a book, and on books alone: it is read into the tables, written from them in either form, moved to a form, and
 // the injections come from meters. Each answers how many bytes of the stream it took, and 0 where it is bad. What it answers is written to a printer, once
 // its call is made: where a write fails the spaces are as the command leaves them, and it answers with that error.
+#![tactic(auto)]
+
 ghost use Rattle.std.specs.Prelude.{◌≡◌, ℕ, ◌+◌, ◌*◌, ◌<◌, ◌≤◌, length, take, replicate, IfOk, OnErr};
 ghost use Rattle.rows.specs.Row.{headed};
 ghost use Rattle.meters.specs.Promise.{Metered};

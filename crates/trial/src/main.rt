@@ -1,5 +1,7 @@
 // Runs calls from a stream on standard input and writes what they answer: docs/TRIAL.md has the table of its commands. It fails where a read or a write
 // does.
+#![tactic(auto)]
+
 ghost use Rattle.std.specs.Prelude.{◌-◌, ◌<◌, ◌≤◌, length, IfOk, OnErr};
 ghost use Rattle.state.specs.Call.{lent};
 ghost use Rattle.trial.specs.Inside.{Refilled, CommandRun};

@@ -1,6 +1,6 @@
 -- `list` prints the head line and then the line of each branch of the book.
 use native.Mathlib.Omega.{arith}
-use Rattle.printing.proofs.Counted.{printing_none, printing_more, printed_all}
+use Rattle.printing.proofs.Counted.{printing_none, printing_more}
 use Rattle.printing.proofs.list.Goals as goal
 
 pub loop-k-init : goal.loop-k-init

@@ -1,5 +1,4 @@
 -- `readings_of` fills the first numbers with the readings of the command.
-use Prim.Native.Nat.{◌-◌}
 use Rattle.book.proofs.Filling.{fill_start, fill_more, fill_end}
 use Rattle.tables.proofs.readings_of.Goals as goal
 

@@ -1,6 +1,6 @@
 -- The loop over the commands: what is left of the stream stands within the input, and the book within its space; the turns fall.
 use mathlib.Core.Path.{◌≡◌}
-use Prim.Native.Nat.{◌-◌, ◌≤◌}
+use Prim.Native.Nat.{◌≤◌}
 use lib.ListN.{length}
 use Rattle.trial.proofs.main.Given as goal
 
