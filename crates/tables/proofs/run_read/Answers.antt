@@ -19,7 +19,7 @@ pub returns-in_err-answer_line-clause-err : goal.returns-in_err-answer_line-clau
 returns-in_err-answer_line-clause-err g c =
     let a = c.number_at-a.ensures in
     let b = c.number_at-b.ensures in
-    let g = both_good a b c.if-b-eq0.false in
+    let g = both_good a b (omega arith) in
     let read = c.read_book-answer in
     let injections = part_lent a.few read.auto.injections in
     let branches = part_lent b.few read.auto.branches in
@@ -29,7 +29,7 @@ pub returns-in_err-signed_line-clause-err : goal.returns-in_err-signed_line-clau
 returns-in_err-signed_line-clause-err g c =
     let a = c.number_at-a.ensures in
     let b = c.number_at-b.ensures in
-    let g = both_good a b c.if-b-eq0.false in
+    let g = both_good a b (omega arith) in
     let read = c.read_book-answer in
     let injections = part_lent a.few read.auto.injections in
     let branches = part_lent b.few read.auto.branches in
@@ -39,7 +39,7 @@ pub returns-in_err-numbers_line-clause-err : goal.returns-in_err-numbers_line-cl
 returns-in_err-numbers_line-clause-err g c =
     let a = c.number_at-a.ensures in
     let b = c.number_at-b.ensures in
-    let g = both_good a b c.if-b-eq0.false in
+    let g = both_good a b (omega arith) in
     let read = c.read_book-answer in
     let injections = part_lent a.few read.auto.injections in
     let branches = part_lent b.few read.auto.branches in
@@ -49,7 +49,7 @@ pub returns-clause-read_run : goal.returns-clause-read_run
 returns-clause-read_run g c =
     let a = c.number_at-a.ensures in
     let b = c.number_at-b.ensures in
-    let g = both_good a b c.if-b-eq0.false in
+    let g = both_good a b (omega arith) in
     let read = c.read_book-answer in
     let injections = part_lent a.few read.auto.injections in
     let branches = part_lent b.few read.auto.branches in
