@@ -1,35 +1,90 @@
 //! Any mixture of outages, returns and moves of load on random books agrees with a fresh screen (document 02, W4), by every group.
 
-mod held;
-
-use held::Held;
 use second::books::random::Random;
 use second::books::random_books::served;
 use second::books::random_ratings::heavy;
 use second::definitions::answer::Answer;
+use second::definitions::book::{pack, unpack, with_status, Book};
 use second::definitions::load::{self, Shift};
 use second::definitions::network::Network;
 use second::definitions::percentage::{Percentage, NAMEPLATE};
-use second::definitions::{cuts, groups};
+use second::definitions::record::{self, SIZE};
+use second::definitions::switching::Lent;
+use second::definitions::{comeback, cuts, groups, outage, screen};
 
-/// Load is moved; true where that was accepted. 12 is what a fresh screen of the changed book says, by every group.
-fn moved(held: &mut Held, shift: Shift) -> bool {
-    let lent = held.lent();
-    let changed = shift.changed(&held.network());
-    let left = match load::allowed(&lent, shift) {
-        Ok(network) => load::own_result(&network, &lent, shift),
-        Err(answer) => {
-            let excess = groups::base_excess(&changed);
-            assert_eq!(answer, Answer::overloaded(excess));
-            let most = load::most(&held.network(), &held.flow, shift.up, shift.down);
-            assert_eq!(excess.amount, shift.kw as i64 - most);
-            return false;
+/// A book with its flow and table, as a run of our own calls leaves them.
+struct Held {
+    percentage: Percentage,
+    book: Vec<u8>,
+    flow: Vec<i64>,
+    table: Vec<u8>,
+}
+
+impl Held {
+    fn lent(&self) -> Lent<'_> {
+        Lent { percentage: self.percentage, book: &self.book, flow: &self.flow, table: &self.table }
+    }
+
+    fn network(&self) -> Network {
+        Network::of(&unpack(&self.book).unwrap(), self.percentage)
+    }
+
+    fn screened(book: &Book, percentage: Percentage) -> Held {
+        let network = Network::of(book, percentage);
+        let flow = cuts::fitting_flow(&network).unwrap();
+        Held { percentage, book: pack(book), table: screen::own_table(&network, &flow), flow }
+    }
+
+    fn left(&mut self, book: Vec<u8>, (flow, table): (Vec<i64>, Vec<u8>)) {
+        *self = Held { percentage: self.percentage, book, flow, table };
+    }
+
+    /// A branch is taken out, or brought back.
+    fn switch(&mut self, branch: usize) {
+        let (lent, serves) = (self.lent(), !self.network().lines[branch].served);
+        let left = match serves {
+            true => comeback::allowed(&lent, branch).map(|network| comeback::own_result(&network, &lent, branch)),
+            false => outage::allowed(&lent, branch).map(|network| outage::own_result(&network, &lent, branch)),
+        };
+        if let Ok(left) = left {
+            self.left(with_status(&self.book, branch, serves), left);
         }
-    };
-    assert_eq!(groups::base_excess(&changed).amount, 0);
-    assert_eq!(load::judge(&held.network(), &lent, shift, &left.0, &left.1).faults, Vec::<String>::new());
-    held.left(shift.book(&held.book), left);
-    true
+    }
+
+    /// Load is moved; true where that was accepted. 12 is what a fresh screen of the changed book says, by every group.
+    fn shift(&mut self, shift: Shift) -> bool {
+        let lent = self.lent();
+        let changed = shift.changed(&self.network());
+        let left = match load::allowed(&lent, shift) {
+            Ok(network) => load::own_result(&network, &lent, shift),
+            Err(answer) => {
+                let excess = groups::base_excess(&changed);
+                assert_eq!(answer, Answer::overloaded(excess));
+                let most = load::most(&self.network(), &self.flow, shift.up, shift.down);
+                assert_eq!(excess.amount, shift.kw as i64 - most);
+                return false;
+            }
+        };
+        assert_eq!(groups::base_excess(&changed).amount, 0);
+        assert_eq!(load::judge(&self.network(), &lent, shift, &left.0, &left.1).faults, Vec::<String>::new());
+        self.left(shift.book(&self.book), left);
+        true
+    }
+
+    /// Every record's verdict, shortage and group is that of a fresh screen by every group, and the table is true.
+    fn agrees_with_a_fresh_screen(&self) {
+        let network = self.network();
+        assert!(screen::table_holds(&network, &self.flow, &self.table));
+        for branch in 0..self.flow.len() {
+            let fresh = record::bytes(groups::verdict(&network, branch), &[]);
+            assert_eq!(record::stretch(&self.table, branch)[..20], fresh[..20]);
+        }
+    }
+
+    /// All that the papers fix: the book, and bytes 0 to 19 of every record.
+    fn fixed(&self) -> (Vec<u8>, Vec<u8>) {
+        (self.book.clone(), self.table.chunks(SIZE).flat_map(|record| record[..20].to_vec()).collect())
+    }
 }
 
 /// How often load was moved, refused, and moved back.
@@ -52,14 +107,14 @@ fn move_some(held: &mut Held, random: &mut Random, times: &mut Times) {
         return;
     }
     let start = held.fixed();
-    if !moved(held, there) {
+    if !held.shift(there) {
         times.refused += 1;
         return;
     }
     held.agrees_with_a_fresh_screen();
     times.moves += 1;
     if random.once_in(2) {
-        assert!(moved(held, there.turned()));
+        assert!(held.shift(there.turned()));
         held.agrees_with_a_fresh_screen();
         assert_eq!(held.fixed(), start);
         times.pairs += 1;

@@ -73,21 +73,22 @@ module _ (form : Form) (n m factor : ℕ) (inj : List ℤ) (bra : List ℕ) (roo
   unfolding book_from book_of
   made_factor = ap (λ (x : Book). x.factor) (book_encode made well)
 
-  read_made : (old new : List ℤ) (old' new' : List ℕ) (r : Answer) → n ≤ length old → fields form * m ≤ length old' → BookRead (encode made) old new old' new' r → ReadBack (encode made) form n m factor inj old new bra old' new' r
+  read_made : (old new : List ℤ) (old' new' : List ℕ) (r : Answer) → n ≤ length old → fields form * m ≤ length old' → BookRead (encode made) old new old' new' r
+      → (r ≡ accepted) × (form_in (encode made) ≡ form) × (buses_in (encode made) ≡ n) × (branches_in (encode made) ≡ m) × (factor_in (encode made) ≡ factor)
+      × (new ≡ take n inj ++ drop n old) × (new' ≡ take (fields form * m) bra ++ drop (fields form * m) old')
   read_made old new old' new' r u v d =
       let o : form_in (encode made) ≡ form = form_encode made well ∙ form_from form n m factor inj bra in
       let p : buses_in (encode made) ≡ n = buses_encode made well ∙ buses_from form n m factor inj bra in
       let q : branches_in (encode made) ≡ m = count_encode made well ∙ count_from form n m factor inj bra in
-      let s = readable (encode made) (length old) (length old') (valid_accepted (encode made) (valid_encode made well)) (omega arith) (rw (o, q) v) in
-      record {
-        taken = read_answer d ∙ ap bare s;
-        form_is = o;
-        buses_are = p;
-        count_is = q;
-        factor_is = made_factor;
-        injections = (rw s at d.injections_left) ∙ rw (made_injections, p) refl;
-        branches = (rw s at d.branches_left) ∙ rw (o, made_branches, q) refl;
-      }
+      let s = readable (encode made) (length old) (length old') (valid_accepted (encode made) (valid_encode made well)) (omega arith) (rw (o, q) v) in (
+        read_answer d ∙ ap bare s,
+        o,
+        p,
+        q,
+        made_factor,
+        (rw s at d.injections_left) ∙ rw (made_injections, p) refl,
+        (rw s at d.branches_left) ∙ rw (o, made_branches, q) refl,
+      )
 
 -- The writer's output in either form, read into tables that are long enough, gives the form asked for and the writer's counts, power factor and tables back.
 pub write_read : (form : Form) (n m factor : ℕ) (inj : List ℤ) (bra out out' : List ℕ) (r : Answer) (old new : List ℤ) (old' new' : List ℕ) (r' : Answer)
@@ -99,7 +100,16 @@ write_read form n m factor inj bra out out' r old new old' new' r' w a u v d =
     let e : out' ≡ encode (book_from form n m factor inj bra) ++ drop (bytes_for form n m) out = rw s at w.left in
     let t : take (bytes_for form n m) out' ≡ encode (book_from form n m factor inj bra) =
     rw e (take_at (encode (book_from form n m factor inj bra)) (drop (bytes_for form n m) out) (bytes_for form n m) (long_encode form n m factor inj bra (length out) g)) in
-    rw t (read_made form n m factor inj bra (length out) g old new old' new' r' u v (rw t at d))
+    let z = read_made form n m factor inj bra (length out) g old new old' new' r' u v (rw t at d) in
+    rw t (record {
+      taken = z.0;
+      form_is = z.1;
+      buses_are = z.2;
+      count_is = z.3;
+      factor_is = z.4;
+      injections = z.5;
+      branches = z.6;
+    })
 
 -- ---- what was read is written
 

@@ -32,4 +32,4 @@ shape_of-input g c =
 
 pub returns-clause-refilled : goal.returns-clause-refilled
 returns-clause-refilled g c =
-    refilled c.read_full.new.buf c.requires.0 c.requires.1 c.loop-i.invariant c.loop-i-test.false c.read_full.auto.buf c.in_ok-more.ensures.0
+    refilled c.read_full.new.buf c.requires.0 c.requires.1 c.loop-i.invariant c.loop-i-test.false c.read_full.auto.buf c.in_ok-more.ensures.in_bounds.0
