@@ -3,7 +3,7 @@ use mathlib.Core.Path.{◌≡◌, sym, ap, ◌∙◌}
 use Prim.Native.Nat.{ℕ}
 use native.Mathlib.Omega.{arith}
 use lib.ListN.{length}
-use Rattle.answer.specs.declared.Answer.{Answer}
+use Rattle.answer.specs.Answer.{Answer}
 use Rattle.layout.specs.Book.{Book}
 use Rattle.layout.specs.Layout.{form_in, book_of}
 use Rattle.layout.proofs.AcceptedWhere.{accepted_valid}

@@ -7,11 +7,8 @@ use Prim.Native.Nat.{ℕ, ◌*◌, ◌/◌, ◌≤◌}
 use native.Mathlib.Omega.{arith}
 use lib.ListN.{length}
 use Rattle.rows.specs.Row.{member}
-use Rattle.answer.specs.Answer.{number_of, place_of, refusal, SaidBy}
-use Rattle.answer.specs.declared.Place.TheVariants.{At}
-use Rattle.answer.specs.declared.Outcome.{Outcome}
-use Rattle.answer.specs.declared.Outcome.TheVariants.{Accepted}
-use Rattle.answer.specs.declared.Answer.{Answer}
+use Rattle.answer.specs.declared.Refusal.TheVariants.{PercentOutside}
+use Rattle.answer.specs.Answer.{Answer, Accepted, At, SaidBy, number_of, place_of, refused}
 use Rattle.answer.proofs.Refusals.{refusal_stands, at_not_nowhere}
 use Rattle.answer.proofs.Numbers.{Gives, plain, inside, gives_not, gives_more}
 use Rattle.quantity.specs.Rating.{percent_out}
@@ -35,8 +32,8 @@ use Rattle.demands.specs.Answered.{PercentFirst}
 
 -- ---- Refusal 21.
 -- A check that gives 21 where the percentage is out of range, and else never.
-record Guarded (percent : ℕ) (check : Outcome) : Type 0 where
-  outside : percent_out percent ≡ true → check ≡ refusal 21
+record Guarded (percent : ℕ) (check : Answer) : Type 0 where
+  outside : percent_out percent ≡ true → check ≡ refused PercentOutside
   within : percent_out percent ≡ false → number_of check ≡ 21 → ⊥
 
 -- What is left of the numbers of a call on one branch.
@@ -44,7 +41,7 @@ abbrev past_percent : ℕ → List ℕ
 past_percent n = 1 ∷ 2 ∷ 3 ∷ 4 ∷ 5 ∷ 6 ∷ 7 ∷ 8 ∷ 9 ∷ n ∷ []
 
 -- A number of a list without 21.
-not_21 : (ns : List ℕ) (check : Outcome) → Gives ns check → member 21 ns ≡ false → number_of check ≡ 21 → ⊥
+not_21 : (ns : List ℕ) (check : Answer) → Gives ns check → member 21 ns ≡ false → number_of check ≡ 21 → ⊥
 not_21 ns check g m = gives_not ns check 21 g m (λ z. omega arith)
 
 module _ (percent : ℕ) (bs : List ℕ) (flows bytes : ℕ) where
@@ -60,7 +57,7 @@ module _ (percent : ℕ) (bs : List ℕ) (flows bytes : ℕ) where
       → Guarded percent (branch_check percent bs flows bytes b v n)
   unfolding member inside
   branch_guarded b v n p m = record {
-    outside = λ o. sym (by_lent percent bs flows bytes b v n (refusal 21) (by_percent percent bs flows bytes o) (refusal_stands 21));
+    outside = λ o. sym (by_lent percent bs flows bytes b v n (refused PercentOutside) (by_percent percent bs flows bytes o) (refusal_stands PercentOutside));
     within = λ i.
         let g = gives_more (8 ∷ check_numbers) (past_percent n) (lent_check percent bs flows bytes) refl (in_range_gives percent bs flows bytes i) in
         not_21 (past_percent n) (branch_check percent bs flows bytes b v n) (branch_gives percent bs flows bytes b v n (past_percent n) g refl p) m;
@@ -70,7 +67,7 @@ module _ (percent : ℕ) (bs : List ℕ) (flows bytes : ℕ) where
   transfer_guarded : (up down kw : ℕ) → Guarded percent (transfer_check percent bs flows bytes up down kw)
   unfolding member inside
   transfer_guarded up down kw = record {
-    outside = λ o. sym (transfer.by_lent percent bs flows bytes up down kw (refusal 21) (by_percent percent bs flows bytes o) (refusal_stands 21));
+    outside = λ o. sym (transfer.by_lent percent bs flows bytes up down kw (refused PercentOutside) (by_percent percent bs flows bytes o) (refusal_stands PercentOutside));
     within = λ i.
         let ns : List ℕ = 19 ∷ 20 ∷ 8 ∷ check_numbers in
         let g = gives_more (8 ∷ check_numbers) ns (lent_check percent bs flows bytes) refl (in_range_gives percent bs flows bytes i) in
@@ -84,31 +81,31 @@ module _ {percent : ℕ} {before after : Lent} {r : Answer} where
       guarded : Guarded percent (screen_check percent before)
       guarded = lent_guarded percent before.book (length before.flow) (length before.table)
 
-      first : ScreenEnds percent before after r → percent_out percent ≡ true → SaidBy (refusal 21) r × (after ≡ before)
-      first (refuses n a k) o = (subst (λ (c : Outcome). SaidBy c r) (guarded.outside o) a, k)
-      first (overloads c x k) o = absurd (refusal_stands 21 (sym (guarded.outside o) ∙ c))
-      first (accepts c a x) o = absurd (refusal_stands 21 (sym (guarded.outside o) ∙ c))
+      first : ScreenEnds percent before after r → percent_out percent ≡ true → SaidBy (refused PercentOutside) r × (after ≡ before)
+      first (refuses n a k) o = (subst (λ (c : Answer). SaidBy c r) (guarded.outside o) a, k)
+      first (overloads c x k) o = absurd (refusal_stands PercentOutside (sym (guarded.outside o) ∙ c))
+      first (accepts c a x) o = absurd (refusal_stands PercentOutside (sym (guarded.outside o) ∙ c))
 
-      none : ScreenEnds percent before after r → percent_out percent ≡ false → number_of r.outcome ≡ 21 → ⊥
+      none : ScreenEnds percent before after r → percent_out percent ≡ false → number_of r ≡ 21 → ⊥
       none (refuses n a k) i q = guarded.within i (sym a.number_is ∙ q)
       none (overloads c x k) i q = omega (arith, x.answer.number_is)
       none (accepts c a x) i q = omega (arith, a.number_is)
 
   -- Every call that is lent a book, its flow and its table.
-  ends_percent : {check : Outcome} {C D : Case} {done : Type 0} → Guarded percent check → Ends check C D done before after r
+  ends_percent : {check : Answer} {C D : Case} {done : Type 0} → Guarded percent check → Ends check C D done before after r
       → PercentFirst percent before after r
   ends_percent {check} {C} {D} {done} g e = record { outside = λ o. (first e o).0; kept = λ o. (first e o).1; within = λ i. none e i }
     where
       never : percent_out percent ≡ true → check ≡ Accepted → ⊥
-      never o c = refusal_stands 21 (sym (g.outside o) ∙ c)
+      never o c = refusal_stands PercentOutside (sym (g.outside o) ∙ c)
 
-      first : Ends check C D done before after r → percent_out percent ≡ true → SaidBy (refusal 21) r × (after ≡ before)
-      first (call.refuses n a k) o = (subst (λ (c : Outcome). SaidBy c r) (g.outside o) a, k)
+      first : Ends check C D done before after r → percent_out percent ≡ true → SaidBy (refused PercentOutside) r × (after ≡ before)
+      first (call.refuses n a k) o = (subst (λ (c : Answer). SaidBy c r) (g.outside o) a, k)
       first (call.unfit c n a k) o = absurd (never o c)
       first (call.overloads c f x k) o = absurd (never o c)
       first (call.accepts c f a x) o = absurd (never o c)
 
-      none : Ends check C D done before after r → percent_out percent ≡ false → number_of r.outcome ≡ 21 → ⊥
+      none : Ends check C D done before after r → percent_out percent ≡ false → number_of r ≡ 21 → ⊥
       none (call.refuses n a k) i q = g.within i (sym a.number_is ∙ q)
       none (call.unfit c n a k) i q = omega (arith, a.number_is)
       none (call.overloads c f x k) i q = omega (arith, x.answer.number_is)
@@ -127,7 +124,7 @@ module _ {percent : ℕ} {before after : Lent} {r : Answer} where
 
 -- An answer that has a place had a percentage in range, so that what is said of such an answer (WhereWrong.antt) is said of every one.
 pub placed_in_range : {percent : ℕ} {before after : Lent} {r : Answer} → PercentFirst percent before after r → {i j : ℕ}
-    → place_of r.outcome ≡ At i j → percent_out percent ≡ false
+    → place_of r ≡ At i j → percent_out percent ≡ false
 placed_in_range {percent} f e = go (percent_out percent) refl
   where
     go : (t : Bool) → percent_out percent ≡ t → percent_out percent ≡ false

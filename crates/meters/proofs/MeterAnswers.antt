@@ -11,9 +11,8 @@ use lib.IntN.{ℤ, pos, neg_ℤ, nat_abs, ◌-ℤ◌}
 use lib.ListN.{length}
 use Rattle.rows.specs.Row.{some, headed}
 use Rattle.rows.specs.Sum.{pick, over, sum}
-use Rattle.answer.specs.Answer.{bare, accepted, refused, refuse_if}
-use Rattle.answer.specs.declared.Outcome.{Outcome}
-use Rattle.answer.specs.declared.Outcome.TheVariants.{Accepted}
+use Rattle.answer.specs.declared.Refusal.TheVariants.{ListsUneven, NoSuchSupply, AdvanceTooFar, SupplyOutside}
+use Rattle.answer.specs.Answer.{Answer, Accepted, refuse_if, refused}
 use Rattle.answer.proofs.Refusals.{past, stands, refusal_stands, leaves}
 use Rattle.rows.proofs.Row.{either_false, no_some}
 use Rattle.rows.proofs.Sum.{over_add, over_same, over_bound}
@@ -70,7 +69,7 @@ inside a b g h =
 pub shaped : (R : Registers) (room : ℕ) → shape R room ≡ Accepted → Even R × (buses R ≤ room)
 shaped R room e =
     let n = buses R in
-    let room_for = refuse_if (ltb room n) 13 Accepted in
+    let room_for = refuse_if (ltb room n) ListsUneven Accepted in
     let few = refuse_if (ltb 128 n) 13 room_for in
     let one = refuse_if (ltb n 1) 13 few in
     let fourth = refuse_if (not (eqb (length R.export_end) n)) 13 one in
@@ -134,31 +133,31 @@ too_far_lem R e = too_far_at (some (buses R) (too_far R)) (took R) (gave R) e
 
 module _ (R : Registers) (out : List ℤ) where
   -- A call that is not accepted leaves the output as it was.
-  refused_with : (o : Outcome) → answer_to R (length out) ≡ o → (o ≡ Accepted → ⊥) → Metered R out out (bare o)
+  refused_with : (o : Answer) → answer_to R (length out) ≡ o → (o ≡ Accepted → ⊥) → Metered R out out (o)
   refused_with o e h = record { answer = meter_said R (length out) (rw e refl); output = rw e (sym (leaves o out _ h)) }
 
-  pub by_shape : (o : Outcome) → o ≡ shape R (length out) → (o ≡ Accepted → ⊥) → Metered R out out (bare o)
+  pub by_shape : (o : Answer) → o ≡ shape R (length out) → (o ≡ Accepted → ⊥) → Metered R out out (o)
   unfolding answer_to
   by_shape o e h = refused_with o (rw (← e) (stands o _ h)) h
 
-  pub by_supply : shape R (length out) ≡ Accepted → buses R ≤ R.supply → Metered R out out (refused 14)
+  pub by_supply : shape R (length out) ≡ Accepted → buses R ≤ R.supply → Metered R out out (refused NoSuchSupply)
   unfolding answer_to
-  by_supply s h = refused_with _ (rw (s, le-leb (buses R) R.supply h) refl) (refusal_stands 14)
+  by_supply s h = refused_with _ (rw (s, le-leb (buses R) R.supply h) refl) (refusal_stands NoSuchSupply)
 
-  pub by_advance : shape R (length out) ≡ Accepted → R.supply < buses R → TooFar ≡ totals_of R → Metered R out out (refused 15)
+  pub by_advance : shape R (length out) ≡ Accepted → R.supply < buses R → TooFar ≡ totals_of R → Metered R out out (refused AdvanceTooFar)
   unfolding answer_to
-  by_advance s h e = refused_with _ (rw (s, lt-leb (buses R) R.supply h, too_far_lem R e) refl) (refusal_stands 15)
+  by_advance s h e = refused_with _ (rw (s, lt-leb (buses R) R.supply h, too_far_lem R e) refl) (refusal_stands AdvanceTooFar)
 
   pub by_range :
-      {x y : ℕ} → shape R (length out) ≡ Accepted → R.supply < buses R → Sums x y ≡ totals_of R → (y + 1000000 < x) ⊎ (x + 1000000 < y) → Metered R out out (refused 16)
+      {x y : ℕ} → shape R (length out) ≡ Accepted → R.supply < buses R → Sums x y ≡ totals_of R → (y + 1000000 < x) ⊎ (x + 1000000 < y) → Metered R out out (refused SupplyOutside)
   unfolding answer_to
   by_range {x} {y} s h e g =
       let w = summed R x y e in
-      refused_with _ (rw (s, lt-leb (buses R) R.supply h, w.near, supplied_is R, ← w.took_is, ← w.gave_is, outside x y g) refl) (refusal_stands 16)
+      refused_with _ (rw (s, lt-leb (buses R) R.supply h, w.near, supplied_is R, ← w.took_is, ← w.gave_is, outside x y g) refl) (refusal_stands SupplyOutside)
 
   pub by_injections :
       {x y : ℕ} {own : ℤ} {out' : List ℤ} → shape R (length out) ≡ Accepted → R.supply < buses R → Sums x y ≡ totals_of R → x ≤ y + 1000000 → y ≤ x + 1000000
-      → own ≡ pos x -ℤ pos y → out' ≡ headed (buses R) (with_supply R own) out → Metered R out out' accepted
+      → own ≡ pos x -ℤ pos y → out' ≡ headed (buses R) (with_supply R own) out → Metered R out out' Accepted
   unfolding answer_to
   by_injections {x} {y} {own} {out'} s h e g k o f =
       let w = summed R x y e in

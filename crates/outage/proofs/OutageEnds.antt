@@ -55,12 +55,12 @@ module _ (percent : ℕ) (bs : List ℕ) (flow : List ℤ) (table : List ℕ) (b
   C = case_in percent bs
 
   -- Refused by its checks.
-  pub ends_refused : {r : Taken} (o : Outcome) → o ≡ checks → (o ≡ Accepted → ⊥) → (r.answer ≡ bare o) × (r.judged ≡ 0)
+  pub ends_refused : {r : Taken} (o : Outcome) → o ≡ checks → (o ≡ Accepted → ⊥) → (r.answer ≡ o) × (r.judged ≡ 0)
       → TakeCounted percent b (lent bs flow table) (lent bs flow table) r
   unfolding member
   ends_refused o e n a = record {
     ends = refuses (λ q. n (e ∙ q))
-        (gives_said take_numbers checks refl refl (take_gives percent bs (length flow) (length table) b) (a.0 ∙ ap bare e)) refl;
+        (gives_said take_numbers checks refl refl (take_gives percent bs (length flow) (length table) b) (a.0 ∙ e)) refl;
     judges = λ q. absurd (n (ap (λ (x : Answer). x.outcome) (sym a.0 ∙ q)));
     none = λ _. a.1;
   }

@@ -5,7 +5,7 @@ use Prim.Native.Nat.{ℕ, ◌≤◌}
 use native.Mathlib.Omega.{arith}
 use lib.IntN.{ℤ}
 use Rattle.rows.specs.Row.{nth}
-use Rattle.answer.specs.declared.Place.TheVariants.{Nowhere}
+use Rattle.answer.specs.Answer.{Nowhere}
 use Rattle.layout.specs.Fault.{first_fault}
 use Rattle.layout.specs.Layout.{bus_values}
 use Rattle.layout.proofs.Faults.{first_sound, sound_bus}

@@ -7,10 +7,8 @@ use native.Mathlib.Omega.{arith}
 use lib.IntN.{ℤ}
 use lib.ListN.{length}
 use Rattle.rows.specs.Row.{member}
-use Rattle.answer.specs.Answer.{bare, accepted, refused}
-use Rattle.answer.specs.declared.Answer.{Answer}
-use Rattle.answer.specs.declared.Outcome.{Outcome}
-use Rattle.answer.specs.declared.Outcome.TheVariants.{Accepted}
+use Rattle.answer.specs.declared.Refusal.TheVariants.{FlowUnfit}
+use Rattle.answer.specs.Answer.{Answer, Accepted, refused}
 use Rattle.answer.proofs.Said.{said_accepted, said_refused}
 use Rattle.answer.proofs.Numbers.{gives_said}
 use Rattle.quantity.specs.Inside.{kw_at}
@@ -34,18 +32,18 @@ use Rattle.restore.proofs.ToBeWritten.{anew_listed, anew_unlisted}
 use Rattle.restore.proofs.StateBack as comeback
 
 module _ (percent : ℕ) (bs : List ℕ) (flow : List ℤ) (table : List ℕ) (b : ℕ) where
-  abbrev checks : Outcome
+  abbrev checks : Answer
   checks = back_check percent bs (length flow) (length table) b
 
   abbrev C : Case
   C = case_in percent bs
 
   -- Refused by its checks.
-  pub ends_refused : {r : Answer} (o : Outcome) → o ≡ checks → (o ≡ Accepted → ⊥) → r ≡ bare o
+  pub ends_refused : {r : Answer} (o : Answer) → o ≡ checks → (o ≡ Accepted → ⊥) → r ≡ o
       → BackEnds percent b (lent bs flow table) (lent bs flow table) r
   unfolding member
   ends_refused o e n a = refuses (λ q. n (e ∙ q))
-      (gives_said back_numbers checks refl refl (back_gives percent bs (length flow) (length table) b) (a ∙ ap bare e)) refl
+      (gives_said back_numbers checks refl refl (back_gives percent bs (length flow) (length table) b) (a ∙ e)) refl
 
   module _ (ok : checks ≡ Accepted) where
     pub may : Returnable percent bs (length flow) (length table) b
@@ -55,8 +53,8 @@ module _ (percent : ℕ) (bs : List ℕ) (flow : List ℤ) (table : List ℕ) (b
       there : b < C.branches
       there = branch_there p may.there
 
-      pub ends_unfit : {r : Answer} → q.fits ≡ false → r ≡ refused 11 → BackEnds percent b (lent bs flow table) (lent bs flow table) r
-      ends_unfit e a = unfit ok (p.unfit e) (rw a (said_refused 11 (λ z. omega arith) (λ z. omega arith))) refl
+      pub ends_unfit : {r : Answer} → q.fits ≡ false → r ≡ refused FlowUnfit → BackEnds percent b (lent bs flow table) (lent bs flow table) r
+      ends_unfit e a = unfit ok (p.unfit e) (rw a (said_refused FlowUnfit (λ z. omega arith) (λ z. omega arith))) refl
 
       module _ (e : q.fits ≡ true) where
         pub raisable_here : Raisable q.wires.branches q.live q.brief q.latent
@@ -81,7 +79,7 @@ module _ (percent : ℕ) (bs : List ℕ) (flow : List ℤ) (table : List ℕ) (b
           pub poised_here : Poised q.wires served brief left
           poised_here = record { case = back C b; flow = on flow; state = state_here }
 
-          pub ends_back : {bs' table' bits : List ℕ} {losses : ℕ} {r : Answer} → r ≡ accepted → Listing q.wires.branches (anew_at table b) bits
+          pub ends_back : {bs' table' bits : List ℕ} {losses : ℕ} {r : Answer} → r ≡ Accepted → Listing q.wires.branches (anew_at table b) bits
               → bs' ≡ set_bit bs (status_bit bs b) 1
               → ((D : Case) (f : ℕ → ℤ) → State D f q.wires served brief left → Rewritten D f served bits table table' losses)
               → BackEnds percent b (lent bs flow table) (lent bs' flow table') r

@@ -11,7 +11,7 @@ use Rattle.search.specs.InsideLinks.{Linkable, Wiring, Linked}
 use Rattle.search.specs.declared.Wires.{Wires}
 use Rattle.search.specs.declared.Latent.{Latent}
 use Rattle.book.specs.declared.cases.CaseRows.{CaseRows}
-use Rattle.answer.specs.declared.Outcome.TheVariants.{Accepted}
+use Rattle.answer.specs.Answer.{Accepted}
 use Rattle.layout.specs.Layout.{branches_in}
 use Rattle.layout.specs.Check.{check_of}
 use Rattle.verdict.specs.Case.{Case, Posed, on, Fits}

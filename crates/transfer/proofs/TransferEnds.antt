@@ -9,10 +9,8 @@ use lib.ListN.{length}
 use Rattle.rows.specs.Row.{nth, member, headed}
 use Rattle.rows.specs.Bit.{has}
 use Rattle.rows.proofs.Row.{headed_rest, length_headed}
-use Rattle.answer.specs.Answer.{bare, accepted, refused, overloaded}
-use Rattle.answer.specs.declared.Answer.{Answer}
-use Rattle.answer.specs.declared.Outcome.{Outcome}
-use Rattle.answer.specs.declared.Outcome.TheVariants.{Accepted}
+use Rattle.answer.specs.declared.Refusal.TheVariants.{FlowUnfit}
+use Rattle.answer.specs.Answer.{Answer, Accepted, overloaded, refused}
 use Rattle.answer.proofs.Said.{said_accepted, said_refused}
 use Rattle.answer.proofs.Numbers.{gives_said}
 use Rattle.quantity.specs.Signed.{pos_part, neg_part}
@@ -63,7 +61,7 @@ held_shifted up down kw p h = record {
 }
 
 module _ (percent : ℕ) (bs : List ℕ) (flow : List ℤ) (table : List ℕ) (up down kw : ℕ) where
-  abbrev checks : Outcome
+  abbrev checks : Answer
   checks = transfer_check percent bs (length flow) (length table) up down kw
 
   abbrev C : Case
@@ -73,11 +71,11 @@ module _ (percent : ℕ) (bs : List ℕ) (flow : List ℤ) (table : List ℕ) (u
   D = shifted C up down kw
 
   -- Refused by its checks.
-  pub ends_refused : {r : Answer} (o : Outcome) → o ≡ checks → (o ≡ Accepted → ⊥) → r ≡ bare o
+  pub ends_refused : {r : Answer} (o : Answer) → o ≡ checks → (o ≡ Accepted → ⊥) → r ≡ o
       → TransferEnds percent up down kw (lent bs flow table) (lent bs flow table) r
   unfolding member
   ends_refused o e n a = refuses (λ q. n (e ∙ q))
-      (gives_said transfer_numbers checks refl refl (transfer_gives percent bs (length flow) (length table) up down kw) (a ∙ ap bare e)) refl
+      (gives_said transfer_numbers checks refl refl (transfer_gives percent bs (length flow) (length table) up down kw) (a ∙ e)) refl
 
   module _ (ok : checks ≡ Accepted) where
     pub may : Movable percent bs (length flow) (length table) up down kw
@@ -87,8 +85,8 @@ module _ (percent : ℕ) (bs : List ℕ) (flow : List ℤ) (table : List ℕ) (u
     posed_here = shifted_posed may.within may.apart (full_at_most may.passes.in_range)
 
     module _ (q : Survey) (p : Surveyed percent bs flow q) where
-      pub ends_unfit : {r : Answer} → q.fits ≡ false → r ≡ refused 11 → TransferEnds percent up down kw (lent bs flow table) (lent bs flow table) r
-      ends_unfit e a = unfit ok (p.unfit e) (rw a (said_refused 11 (λ z. omega arith) (λ z. omega arith))) refl
+      pub ends_unfit : {r : Answer} → q.fits ≡ false → r ≡ refused FlowUnfit → TransferEnds percent up down kw (lent bs flow table) (lent bs flow table) r
+      ends_unfit e a = unfit ok (p.unfit e) (rw a (said_refused FlowUnfit (λ z. omega arith) (λ z. omega arith))) refl
 
       module _ (e : q.fits ≡ true) where
         state : State (normal C) (on flow) q.wires q.served q.live q.latent
@@ -187,7 +185,7 @@ module _ (percent : ℕ) (bs : List ℕ) (flow : List ℤ) (table : List ℕ) (u
                   (u, λ e. d.changed (omega (arith, both j u, ap pos_part e, ap neg_part e)))
 
               pub ends_moved : {bs' table' bits : List ℕ} {losses : ℕ} {r : Answer} {left : Latent}
-                  → Raised q.wires.branches q.live q.brief y.latent left → r ≡ accepted → Bytes bs
+                  → Raised q.wires.branches q.live q.brief y.latent left → r ≡ Accepted → Bytes bs
                   → Listing q.wires.branches (listed_at q.served touched table) bits → bs' ≡ shifted_bytes bs up down kw
                   → ((E : Case) (f : ℕ → ℤ) → State E f q.wires q.served q.brief left → Rewritten E f q.served bits table table' losses)
                   → TransferEnds percent up down kw (lent bs flow table) (lent bs' flow' table') r

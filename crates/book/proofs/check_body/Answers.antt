@@ -3,7 +3,7 @@ use mathlib.Core.Path.{◌≡◌, sym, ap, ◌∙◌}
 use Prim.Native.Nat.{ℕ}
 use Rattle.bits.specs.Field.{field}
 use Rattle.layout.specs.Layout.{bits_for}
-use Rattle.answer.specs.declared.Place.TheVariants.{Nowhere}
+use Rattle.answer.specs.Answer.{Nowhere}
 use Rattle.layout.specs.Fault.{first_fault}
 use Rattle.layout.specs.Check.{bus_fault_at, branch_fault_at}
 use Rattle.book.proofs.TestAnswers.{body_bus, body_branch, body_tail, body_sum, body_good}

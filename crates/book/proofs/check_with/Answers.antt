@@ -1,6 +1,6 @@
 -- `check_with` refuses by the header first, then by what comes after it.
 use mathlib.Core.Path.{◌≡◌, refl, sym, ◌∙◌}
-use Rattle.answer.specs.declared.Outcome.TheVariants.{Accepted}
+use Rattle.answer.specs.Answer.{Accepted}
 use Rattle.answer.proofs.Refusals.{stands}
 use Rattle.layout.specs.Check.{head_check, check_of}
 use Rattle.book.proofs.TestAnswers.{head_range}

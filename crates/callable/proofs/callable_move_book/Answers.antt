@@ -9,7 +9,7 @@ returns c =
     let said = moved.ensures.answer in
     record {
       answer = moved.result;
-      place = place_of moved.result.outcome;
+      place = place_of moved.result;
       ended = rw c.form_of.ensures at moved.ensures;
       said = record {
         number_is = sym c.number_of.ensures;

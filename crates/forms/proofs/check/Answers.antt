@@ -4,7 +4,7 @@ use mathlib.Core.Path.{◌≡◌, sym, ap, ◌∙◌}
 use mathlib.Core.Bool.{Bool}
 use Prim.Native.Nat.{ℕ}
 use lib.Dec.{ltb}
-use Rattle.answer.specs.declared.Outcome.TheVariants.{Accepted}
+use Rattle.answer.specs.Answer.{Accepted}
 use Rattle.layout.specs.Check.{check_of}
 use Rattle.layout.specs.Layout.{bytes_for, buses_in, branches_in, book_of}
 use Rattle.forms.specs.Move.{ratings_differ, would_lose}

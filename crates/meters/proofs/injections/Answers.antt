@@ -8,7 +8,7 @@ use mir.Syntax.{w32}
 use mir.Val.{SFits}
 use mir.Facts.{to_z-of_z}
 use mathlib.Core.Logic.{inl, inr}
-use Rattle.answer.specs.declared.Outcome.TheVariants.{Accepted}
+use Rattle.answer.specs.Answer.{Accepted}
 use Rattle.meters.specs.Registers.{Registers, registers, buses, shape}
 use Rattle.meters.specs.Inside.{Even, totals_of}
 use Rattle.meters.specs.declared.Totals.TheVariants.{Sums}

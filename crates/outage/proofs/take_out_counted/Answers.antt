@@ -37,7 +37,7 @@ returns-then-not-fits c =
     let lost : ℕ = c.args.branch in
     let ok : take_check c.args.percent bytes (length lent_flow) (length lent_table) lost ≡ Accepted = sym c.check-found.ensures ∙ c.in-Accepted.is in
     ends_unfit _ bytes lent_flow lent_table lost ok _ c.survey_lent-lent.ensures (c.if-not-fits.true)
-    (c.told-then-not-fits.ensures.0 ∙ ap bare c.refuse.ensures) c.told-then-not-fits.ensures.1
+    (c.told-then-not-fits.ensures.0 ∙ c.refuse.ensures) c.told-then-not-fits.ensures.1
 
 pub stretch-requires : goal.stretch-requires
 stretch-requires c =

@@ -3,7 +3,7 @@ use mathlib.Core.Path.{◌≡◌, sym, ◌∙◌}
 use mathlib.Core.Bool.{false}
 use Prim.Native.Nat.{◌*◌, ◌≤◌}
 use lib.ListN.{length}
-use Rattle.answer.specs.declared.Place.TheVariants.{Nowhere}
+use Rattle.answer.specs.Answer.{Nowhere}
 use Rattle.layout.specs.Form.{fields}
 use Rattle.layout.specs.Fault.{first_fault}
 use Rattle.layout.specs.Check.{outside}

@@ -7,8 +7,7 @@ use Prim.Native.Nat.{ℕ, ◌*◌, ◌<◌, ◌≤◌}
 use borrow.Author.Tests.{not-false}
 use lib.IntN.{ℤ}
 use lib.ListN.{length}
-use Rattle.answer.specs.Answer.{bare}
-use Rattle.answer.specs.declared.Outcome.TheVariants.{Accepted}
+use Rattle.answer.specs.Answer.{Accepted}
 use Rattle.state.specs.Inside.{Poised}
 use Rattle.state.proofs.Surveying.{surveyable, sizes}
 use Rattle.restore.specs.Promise.{back_check}
@@ -35,7 +34,7 @@ returns-then-not-fits c =
     let returning : ℕ = c.args.branch in
     let ok : back_check c.args.percent bytes (length lent_flow) (length lent_table) returning ≡ Accepted = sym c.check-found.ensures ∙ c.in-Accepted.is in
     ends_unfit _ bytes lent_flow lent_table returning ok _ c.survey_lent-lent.ensures (c.if-not-fits.true)
-    (c.answer_with-then-not-fits.ensures ∙ ap bare c.refuse.ensures)
+    (c.answer_with-then-not-fits.ensures ∙ c.refuse.ensures)
 
 pub offset_bounds-loss-branch : goal.offset_bounds-loss-branch
 offset_bounds-loss-branch c =

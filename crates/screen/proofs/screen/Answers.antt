@@ -9,7 +9,7 @@ use lib.ListN.{length}
 use Rattle.rows.specs.Row.{nth}
 use Rattle.quantity.specs.Signed.{pos_part, neg_part}
 use Rattle.quantity.proofs.Limits.{full_at_most}
-use Rattle.answer.specs.declared.Outcome.TheVariants.{Accepted}
+use Rattle.answer.specs.Answer.{Accepted}
 use Rattle.layout.specs.Book.{WellFormed}
 use Rattle.layout.specs.Layout.{book_of}
 use Rattle.layout.proofs.WellFormed.{accepted_well}

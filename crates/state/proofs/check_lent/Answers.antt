@@ -4,7 +4,7 @@ use mathlib.Core.Path.{◌≡◌, sym, ◌∙◌}
 use mathlib.Core.Bool.{false}
 use Prim.Native.Nat.{ℕ, ◌≤◌}
 use mathlib.Core.List.{List}
-use Rattle.answer.specs.declared.Outcome.TheVariants.{Accepted}
+use Rattle.answer.specs.Answer.{Accepted}
 use Rattle.quantity.specs.Rating.{percent_out}
 use Rattle.layout.specs.Check.{check_of}
 use Rattle.book.proofs.RowsHoldBook.{head_in_range}

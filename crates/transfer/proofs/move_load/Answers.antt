@@ -8,8 +8,7 @@ use Prim.Native.Nat.{ℕ, ◌*◌, ◌≤◌}
 use borrow.Author.Tests.{not-false}
 use lib.IntN.{ℤ}
 use lib.ListN.{length}
-use Rattle.answer.specs.Answer.{bare}
-use Rattle.answer.specs.declared.Outcome.TheVariants.{Accepted}
+use Rattle.answer.specs.Answer.{Accepted}
 use Rattle.bits.specs.Field.{Bytes}
 use Rattle.reroute.specs.declared.Verdict.TheVariants.{Carries}
 use Rattle.state.specs.Inside.{Poised}
@@ -45,7 +44,7 @@ returns-then-not-fits c =
     let moving : ℕ = c.args.kw in
     let ok : transfer_check c.args.percent bytes (length lent_flow) (length lent_table) rising falling moving ≡ Accepted = sym c.check-found.ensures ∙ c.in-Accepted.is in
     ends_unfit _ bytes lent_flow lent_table rising falling moving ok _ c.survey_lent-lent.ensures
-    (c.if-not-fits.true) (c.answer_with-then-not-fits.ensures ∙ ap bare c.refuse.ensures)
+    (c.if-not-fits.true) (c.answer_with-then-not-fits.ensures ∙ c.refuse.ensures)
 
 pub deliver-judged-requires : goal.deliver-judged-requires
 deliver-judged-requires c =
