@@ -23,6 +23,26 @@ pub enum Form {
     New,
 }
 
+// The form of a layout bit: 1 is new, and any other number asks for the old one.
+impl From<u32> for Form {
+    ghost from_gives = { λ bit form. form ≡ form_of bit };
+
+    fn from(bit: u32) -> Form {
+        if bit == 1 { Form::New } else { Form::Old }
+    }
+}
+
+impl From<Form> for u32 {
+    ghost from_gives = { λ form bit. bit ≡ form_bit form };
+
+    fn from(form: Form) -> u32 {
+        match form {
+            Form::Old => 0,
+            Form::New => 1,
+        }
+    }
+}
+
 // The form, the counts, the power factor and the fill bits of a book.
 #[derive(Clone, Copy)]
 pub struct Head {
@@ -51,18 +71,14 @@ pub struct Branch {
 }
 
 // The field of a bus that is at fault.
+#[tactic(auto, unfolding(crate::specs::Fault::bus_fault))]
 pub fn bus_fault(x: Bus) -> Option<u8>
     ensures { result ≡ field_at (bus_fault x.sign x.size) }
 {
     if 1000000 < x.size {
         return Some(2);
     }
-    if x.sign == 1 {
-        if x.size == 0 {
-            return Some(2);
-        }
-    }
-    None
+    (x.sign == 1 && x.size == 0).then_some(2)
 }
 
 // How many numbers a branch has.
@@ -84,6 +100,7 @@ pub fn numbers(form: Form, branches: usize) -> usize
 }
 
 // The field of a branch that is at fault.
+#[tactic(auto, using(crate::proofs::Forms::last_field), unfolding(crate::specs::Fault::branch_fault))]
 pub fn branch_fault(form: Form, buses: usize, x: Branch) -> Option<u8>
     ensures { result ≡ field_at (branch_fault form buses x) }
 {
@@ -128,19 +145,7 @@ pub fn first_fault<F: Fn(usize) -> Option<u8>>(count: usize, fault: F) -> Option
 pub fn is_outside(buses: usize, branches: usize, factor: u32) -> bool
     ensures { result ≡ outside buses branches factor }
 {
-    if buses < 1 {
-        return true;
-    }
-    if 128 < buses {
-        return true;
-    }
-    if 256 < branches {
-        return true;
-    }
-    if factor < 1 {
-        return true;
-    }
-    1000 < factor
+    !(1..=128).contains(&buses) || 256 < branches || !(1..=1000).contains(&factor)
 }
 
 // What enters and what leaves over some buses.
@@ -212,28 +217,12 @@ pub fn bytes_for(form: Form, buses: usize, branches: usize) -> usize
     (branch_place(form, buses, branches) + 7) / 8
 }
 
-// The form of a layout bit: 1 is new.
-pub fn form_of(bit: u32) -> Form
-    ensures { result ≡ form_of bit }
-{
-    if bit == 1 { Form::New } else { Form::Old }
-}
-
-fn form_bit(form: Form) -> u32
-    ensures { result ≡ form_bit form }
-{
-    match form {
-        Form::Old => 0,
-        Form::New => 1,
-    }
-}
-
 // The header, read and put.
 pub fn head_of(book: &[u8]) -> Head
     ensures { HeadRead book.now result }
 {
     Head {
-        form: form_of(bits::field(book, 27, 1)),
+        form: Form::from(bits::field(book, 27, 1)),
         buses: bits::field(book, 0, 8) as usize,
         branches: bits::field(book, 8, 9) as usize,
         factor: bits::field(book, 17, 10),
@@ -248,8 +237,7 @@ pub fn put_head(out: &mut [u8], h: Head)
     bits::put(out, 0, 8, h.buses as u32);
     bits::put(out, 8, 9, h.branches as u32);
     bits::put(out, 17, 10, h.factor);
-    let form = h.form;
-    bits::put(out, 27, 1, form_bit(form));
+    bits::put(out, 27, 1, u32::from(h.form));
     bits::put(out, 28, 4, h.spare);
 }
 

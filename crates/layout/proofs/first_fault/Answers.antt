@@ -1,5 +1,4 @@
 -- `first_fault` gives the first fault of its items.
-use mathlib.Core.Path.{refl}
 use Rattle.layout.proofs.FirstFault.{scan_start, scan_more, scan_stop, scan_end}
 use Rattle.layout.proofs.first_fault.Goals as goal
 

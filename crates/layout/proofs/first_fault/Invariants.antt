@@ -1,5 +1,5 @@
 -- `first_fault` gives the first fault of its items.
-use Prim.Native.Nat.{ℕ, ◌-◌}
+use Prim.Native.Nat.{ℕ}
 use Rattle.layout.specs.Fault.{field_at}
 use Rattle.layout.specs.Inside.{Tells}
 use Rattle.layout.proofs.FirstFault.{Scanned}

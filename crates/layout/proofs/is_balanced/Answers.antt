@@ -21,8 +21,7 @@ pub loop-k-preserved : goal.loop-k-preserved
 loop-k-preserved g c =
     let fit : SFits w32 c.injection.result = sfits_of c.injection.type_inv in
     let l = c.loop-k-test.true in
-    let counted = rw (to_z-of_z fit) at c.count_in-sums.ensures in
-    (
+    let counted = rw (to_z-of_z fit) at c.count_in-sums.ensures in (
       room_more _ _ _ _ (c.requires.small _ l _ c.injection.ensures) c.loop-k.invariant.0 counted,
       λ h t. tally_more h _ _ _ _ _ l (t _ l _ c.injection.ensures) (c.loop-k.invariant.1 h t) counted,
     )
