@@ -28,11 +28,11 @@ read_gives bs i j =
 
 pub read_said : (bs : List ℕ) (i j : ℕ) {r : Answer} → r ≡ (read_check bs i j) → SaidBy (read_check bs i j) r
 unfolding member
-read_said bs i j = gives_said read_numbers (read_check bs i j) refl refl (read_gives bs i j)
+read_said bs i j = gives_said read_numbers (read_check bs i j) refl (read_gives bs i j)
 
 pub read_answer : {bs : List ℕ} {inj i : List ℤ} {bra b : List ℕ} {r : Answer} → BookRead bs inj i bra b r → r ≡ (read_check bs (length inj) (length bra))
 unfolding member
-read_answer {bs} {inj} {i} {bra} {b} {r} d = said_is read_numbers _ refl refl (read_gives bs (length inj) (length bra)) d.answer
+read_answer {bs} {inj} {i} {bra} {b} {r} d = said_is read_numbers _ refl (read_gives bs (length inj) (length bra)) d.answer
 
 pub record SameRead (r r' : Answer) (i i' : List ℤ) (b b' : List ℕ) : Type 0 where
   pub answers : r ≡ r'

@@ -1,6 +1,6 @@
 // The rows of the case that an accepted book makes at a percentage of nameplate.
 ghost use Rattle.std.specs.Prelude.{◌≡◌, ◌≤◌};
-ghost use Rattle.answer.specs.declared.Outcome.TheVariants.{Accepted};
+ghost use Rattle.answer.specs.Answer.{Accepted};
 ghost use Rattle.quantity.specs.Rating.{limit_of};
 ghost use Rattle.layout.specs.Layout.{book_of};
 ghost use Rattle.layout.specs.Inside.{HeadRead};

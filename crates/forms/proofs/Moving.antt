@@ -41,11 +41,11 @@ move_gives bs f room =
 
 pub move_said : (bs : List ℕ) (f : Form) (room : ℕ) {r : Answer} → r ≡ (move_check bs f room) → SaidBy (move_check bs f room) r
 unfolding member
-move_said bs f room = gives_said move_numbers (move_check bs f room) refl refl (move_gives bs f room)
+move_said bs f room = gives_said move_numbers (move_check bs f room) refl (move_gives bs f room)
 
 pub move_answer : {bs : List ℕ} {f : Form} {out out' : List ℕ} {r : Answer} → BookMoved bs f out out' r → r ≡ (move_check bs f (length out))
 unfolding member
-move_answer {bs} {f} {out} d = said_is move_numbers _ refl refl (move_gives bs f (length out)) d.answer
+move_answer {bs} {f} {out} d = said_is move_numbers _ refl (move_gives bs f (length out)) d.answer
 
 -- ---- the tests
 

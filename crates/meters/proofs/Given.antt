@@ -30,7 +30,7 @@ meter_gives R room =
 module _ (R : Registers) where
   pub meter_said : (room : ℕ) {r : Answer} → r ≡ (answer_to R room) → SaidBy (answer_to R room) r
   unfolding member
-  meter_said room = gives_said meter_numbers (answer_to R room) refl refl (meter_gives R room)
+  meter_said room = gives_said meter_numbers (answer_to R room) refl (meter_gives R room)
 
   -- Readings have no place in a book.
   pub meter_nowhere : (room : ℕ) → place_of (answer_to R room) ≡ Nowhere
@@ -39,4 +39,4 @@ module _ (R : Registers) where
 
   pub meter_answer : {out out' : List ℤ} {r : Answer} → Metered R out out' r → r ≡ (answer_to R (length out))
   unfolding member
-  meter_answer {out} d = said_is meter_numbers _ refl refl (meter_gives R (length out)) d.answer
+  meter_answer {out} d = said_is meter_numbers _ refl (meter_gives R (length out)) d.answer

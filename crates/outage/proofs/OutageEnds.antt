@@ -60,7 +60,7 @@ module _ (percent : ℕ) (bs : List ℕ) (flow : List ℤ) (table : List ℕ) (b
   unfolding member
   ends_refused o e n a = record {
     ends = refuses (λ q. n (e ∙ q))
-        (gives_said take_numbers checks refl refl (take_gives percent bs (length flow) (length table) b) (a.0 ∙ e)) refl;
+        (gives_said take_numbers checks refl (take_gives percent bs (length flow) (length table) b) (a.0 ∙ e)) refl;
     judges = λ q. absurd (n (ap (λ (x : Answer). x.outcome) (sym a.0 ∙ q)));
     none = λ _. a.1;
   }

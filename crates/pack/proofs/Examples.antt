@@ -2,7 +2,7 @@
 use mathlib.Core.Path.{◌≡◌, refl}
 use mathlib.Core.List.{[], ◌∷◌}
 use lib.IntN.{pos, negsuc}
-use Rattle.answer.specs.declared.Refusal.TheVariants.{CountsOutside, NotBalanced, TooShort}
+use Rattle.answer.specs.declared.Refusal.TheVariants.{CountsOutside, BusWrong, BranchWrong, NotBalanced, TooShort}
 use Rattle.answer.specs.Answer.{Accepted, At, refused}
 use Rattle.rows.specs.Sum.{over}
 use Rattle.layout.specs.declared.Form.TheVariants.{Old, New}
@@ -20,16 +20,16 @@ unfolding write_check
 few_numbers = refl
 
 -- The least number of 32 bits, before a status of 2: the size of bus 0.
-least_number : write_check Old 2 1 1000 (negsuc 2147483647 ∷ pos 0 ∷ []) (0 ∷ 1 ∷ 0 ∷ 2 ∷ []) 0 ≡ refusal_at 4 (At 0 2)
+least_number : write_check Old 2 1 1000 (negsuc 2147483647 ∷ pos 0 ∷ []) (0 ∷ 1 ∷ 0 ∷ 2 ∷ []) 0 ≡ refused (BusWrong (record { item = 0; field = 2 }))
 unfolding write_check first_fault bus_fault
 least_number = refl
 
 -- A status of 2, before a sum of 1 kW: the fourth field of an old branch, and the fifth of a new one.
-status_two : write_check Old 2 1 1000 (pos 1 ∷ pos 0 ∷ []) (0 ∷ 1 ∷ 0 ∷ 2 ∷ []) 0 ≡ refusal_at 5 (At 0 4)
+status_two : write_check Old 2 1 1000 (pos 1 ∷ pos 0 ∷ []) (0 ∷ 1 ∷ 0 ∷ 2 ∷ []) 0 ≡ refused (BranchWrong (record { item = 0; field = 4 }))
 unfolding write_check first_fault bus_fault branch_fault
 status_two = refl
 
-new_status_two : write_check New 2 1 1000 (pos 1 ∷ pos 0 ∷ []) (0 ∷ 1 ∷ 0 ∷ 0 ∷ 2 ∷ []) 0 ≡ refusal_at 5 (At 0 5)
+new_status_two : write_check New 2 1 1000 (pos 1 ∷ pos 0 ∷ []) (0 ∷ 1 ∷ 0 ∷ 0 ∷ 2 ∷ []) 0 ≡ refused (BranchWrong (record { item = 0; field = 5 }))
 unfolding write_check first_fault bus_fault branch_fault
 new_status_two = refl
 
@@ -52,7 +52,7 @@ new_few_numbers : write_check New 2 1 1000 (pos 0 ∷ pos 0 ∷ []) (0 ∷ 1 ∷
 unfolding write_check
 new_few_numbers = refl
 
-new_below : write_check New 2 1 1000 (pos 1 ∷ pos 0 ∷ []) (0 ∷ 1 ∷ 5 ∷ 4 ∷ 1 ∷ []) 20 ≡ refusal_at 5 (At 0 4)
+new_below : write_check New 2 1 1000 (pos 1 ∷ pos 0 ∷ []) (0 ∷ 1 ∷ 5 ∷ 4 ∷ 1 ∷ []) 20 ≡ refused (BranchWrong (record { item = 0; field = 4 }))
 unfolding write_check first_fault bus_fault branch_fault
 new_below = refl
 

@@ -30,8 +30,8 @@ write_gives form n m factor inj bra room =
 module _ (form : Form) (n m factor : ℕ) (inj : List ℤ) (bra : List ℕ) where
   pub write_said : (room : ℕ) {r : Answer} → r ≡ (write_check form n m factor inj bra room) → SaidBy (write_check form n m factor inj bra room) r
   unfolding member
-  write_said room = gives_said write_numbers (write_check form n m factor inj bra room) refl refl (write_gives form n m factor inj bra room)
+  write_said room = gives_said write_numbers (write_check form n m factor inj bra room) refl (write_gives form n m factor inj bra room)
 
   pub write_answer : {out out' : List ℕ} {r : Answer} → BookWritten form n m factor inj bra out out' r → r ≡ (write_check form n m factor inj bra (length out))
   unfolding member
-  write_answer {out} d = said_is write_numbers _ refl refl (write_gives form n m factor inj bra (length out)) d.answer
+  write_answer {out} d = said_is write_numbers _ refl (write_gives form n m factor inj bra (length out)) d.answer

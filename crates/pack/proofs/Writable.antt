@@ -42,42 +42,10 @@ module _ (form : Form) (n m factor : ℕ) (inj : List ℤ) (bra : List ℕ) (roo
   abbrev check : Answer
   check = write_check form n m factor inj bra room
 
-  pub write_outside : outside n m factor ≡ true → refused CountsOutside ≡ check
+  write_good_lem : outside n m factor ≡ false → n ≤ length inj → fields form * m ≤ length bra → first_fault (entry_fault inj) n ≡ Nowhere
+      → first_fault (row_fault form n bra) m ≡ Nowhere → balances n (entry inj) ≡ true → bytes_for form n m ≤ room → check ≡ Accepted
   unfolding write_check
-  write_outside o = sym (rw o refl)
-
-  pub write_few_injections : outside n m factor ≡ false → length inj < n → refused TooShort ≡ check
-  unfolding write_check
-  write_few_injections o l = sym (rw (o, lt-ltb (length inj) n l) refl)
-
-  module _ (o : outside n m factor ≡ false) (u : n ≤ length inj) where
-    pub write_few_branches : length bra < fields form * m → refused TooShort ≡ check
-    unfolding write_check
-    write_few_branches l = sym (rw (o, le-ltb (length inj) n u, lt-ltb (length bra) (fields form * m) l) refl)
-
-    module _ (v : fields form * m ≤ length bra) where
-      pub write_entry : {w : Option Place} {i j : ℕ} → w ≡ first_fault (entry_fault inj) n → w ≡ At i j → refusal_at 4 w ≡ check
-      unfolding write_check
-      write_entry h e = rw e (sym (rw (o, le-ltb (length inj) n u, le-ltb (length bra) (fields form * m) v, sym h ∙ e) refl))
-
-      module _ (e : first_fault (entry_fault inj) n ≡ Nowhere) where
-        pub write_row : {w : Option Place} {i j : ℕ} → w ≡ first_fault (row_fault form n bra) m → w ≡ At i j → refusal_at 5 w ≡ check
-        unfolding write_check
-        write_row h f = rw f (sym (rw (o, le-ltb (length inj) n u, le-ltb (length bra) (fields form * m) v, e, sym h ∙ f) refl))
-
-        module _ (f : first_fault (row_fault form n bra) m ≡ Nowhere) where
-          pub write_sum : balances n (entry inj) ≡ false → refused NotBalanced ≡ check
-          unfolding write_check
-          write_sum b = sym (rw (o, le-ltb (length inj) n u, le-ltb (length bra) (fields form * m) v, e, f, b) refl)
-
-          module _ (b : balances n (entry inj) ≡ true) (x : ℕ) (is : x ≡ bytes_for form n m) where
-            pub write_room : room < x → refused TooShort ≡ check
-            unfolding write_check
-            write_room l = let l' : room < bytes_for form n m = omega arith in sym (rw (o, le-ltb (length inj) n u, le-ltb (length bra) (fields form * m) v, e, f, b, lt-ltb room (bytes_for form n m) l') refl)
-
-            pub write_good_lem : x ≤ room → Accepted ≡ check
-            unfolding write_check
-            write_good_lem l = let l' : bytes_for form n m ≤ room = omega arith in sym (rw (o, le-ltb (length inj) n u, le-ltb (length bra) (fields form * m) v, e, f, b, le-ltb room (bytes_for form n m) l') refl)
+  write_good_lem o u v e f b l = rw (o, le-ltb (length inj) n u, le-ltb (length bra) (fields form * m) v, e, f, b, le-ltb room (bytes_for form n m) l) refl
 
   pub write_accepted : check ≡ Accepted → Writable form n m factor inj bra room
   unfolding write_check
@@ -100,7 +68,7 @@ module _ (form : Form) (n m factor : ℕ) (inj : List ℤ) (bra : List ℕ) (roo
       }
 
   pub accepted_write : Writable form n m factor inj bra room → check ≡ Accepted
-  accepted_write w = sym (write_good_lem (range_in n m factor w.range) w.injections_long w.branches_long w.entries w.rows w.level (bytes_for form n m) refl w.fits)
+  accepted_write w = write_good_lem (range_in n m factor w.range) w.injections_long w.branches_long w.entries w.rows w.level w.fits
 
 -- ---- the book of the tables
 

@@ -43,7 +43,7 @@ module _ (percent : ℕ) (bs : List ℕ) (flow : List ℤ) (table : List ℕ) (b
       → BackEnds percent b (lent bs flow table) (lent bs flow table) r
   unfolding member
   ends_refused o e n a = refuses (λ q. n (e ∙ q))
-      (gives_said back_numbers checks refl refl (back_gives percent bs (length flow) (length table) b) (a ∙ e)) refl
+      (gives_said back_numbers checks refl (back_gives percent bs (length flow) (length table) b) (a ∙ e)) refl
 
   module _ (ok : checks ≡ Accepted) where
     pub may : Returnable percent bs (length flow) (length table) b

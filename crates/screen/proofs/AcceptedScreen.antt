@@ -36,7 +36,7 @@ pub accepted_screen : {percent : ℕ} {before after : Lent} {r : Answer} → Scr
     → Done percent before after
 unfolding member
 accepted_screen {percent} {before} (refuses n a k) e =
-    let is = said_is lent_numbers (screen_check percent before) refl refl (lent_gives _ _ _ _) a in
+    let is = said_is lent_numbers (screen_check percent before) refl (lent_gives _ _ _ _) a in
     absurd (n (sym (ap (λ (x : Answer). x) is) ∙ e))
 accepted_screen (overloads c o k) e = absurd (omega (arith, o.answer.number_is, number_zero e))
 accepted_screen {before = before} (accepts c a s) e =

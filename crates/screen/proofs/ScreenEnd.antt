@@ -45,7 +45,7 @@ module _ (percent : ℕ) (bs : List ℕ) (flow : List ℤ) (table : List ℕ) wh
       → ScreenEnds percent (lent bs flow table) (lent bs flow table) r
   unfolding member
   by_check o e n a =
-      refuses (λ q. n (e ∙ q)) (gives_said lent_numbers checks refl refl (lent_gives percent bs (length flow) (length table)) (a ∙ e)) refl
+      refuses (λ q. n (e ∙ q)) (gives_said lent_numbers checks refl (lent_gives percent bs (length flow) (length table)) (a ∙ e)) refl
 
   module _ (ok : checks ≡ Accepted) where
     pub by_overload : {r : Answer} → OverloadSaid (case_in percent bs) r → ScreenEnds percent (lent bs flow table) (lent bs flow table) r

@@ -75,7 +75,7 @@ module _ (percent : ℕ) (bs : List ℕ) (flow : List ℤ) (table : List ℕ) (u
       → TransferEnds percent up down kw (lent bs flow table) (lent bs flow table) r
   unfolding member
   ends_refused o e n a = refuses (λ q. n (e ∙ q))
-      (gives_said transfer_numbers checks refl refl (transfer_gives percent bs (length flow) (length table) up down kw) (a ∙ e)) refl
+      (gives_said transfer_numbers checks refl (transfer_gives percent bs (length flow) (length table) up down kw) (a ∙ e)) refl
 
   module _ (ok : checks ≡ Accepted) where
     pub may : Movable percent bs (length flow) (length table) up down kw
