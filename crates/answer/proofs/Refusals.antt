@@ -1,9 +1,9 @@
 -- Refusals in order: a chain that accepts passed every test, and one that doesn't stands.
-use mathlib.Core.Path.{◌≡◌, refl}
-use mathlib.Core.Bool.{Bool, true, false}
+use mathlib.Core.Path.{◌≡◌, refl, sym, ap, ◌∙◌}
+use mathlib.Core.Bool.{Bool, true, false, false≢true}
 use mathlib.Core.List.{List}
 use Prim.Native.Nat.{ℕ}
-use Rattle.std.specs.Prelude.{Option, Some, None, Ok, Err}
+use Rattle.std.specs.Prelude.{IsErr, IsErrAnd, Option, Some, None, Ok, Err}
 use Rattle.answer.specs.declared.Place.{Place}
 use Rattle.answer.specs.declared.Refusal.{Refusal}
 use Rattle.answer.specs.Answer.{Answer, Accepted, Nowhere, At, place_of, refused, refuse_if, refuse_at, and_then, settled}
@@ -57,6 +57,13 @@ refusal_stands why e = cc
 -- The arms of a `?`: what it goes on from, and what it answers with.
 pub went_on : {o : Answer} {x : Unit} → o ≡ Ok x → o ≡ Accepted
 went_on {x = tt} e = e
+
+pub handed_on : {o r : Answer} {why : Refusal} → o ≡ Err why → IsErr r × IsErrAnd r (λ e. e ≡ why) → r ≡ o
+handed_on {o = o} {r = r} {why = why} e h = go r h ∙ sym e
+  where
+    go : (s : Answer) → IsErr s × IsErrAnd s (λ x. x ≡ why) → s ≡ Err why
+    go (Ok _) h = absurd (false≢true h.0)
+    go (Err who) h = ap Err h.1
 
 pub gave_up : {o : Answer} {why : Refusal} → o ≡ Err why → o ≡ Accepted → ⊥
 gave_up e a = cc

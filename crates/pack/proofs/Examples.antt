@@ -3,7 +3,7 @@ use mathlib.Core.Path.{◌≡◌, refl}
 use mathlib.Core.List.{[], ◌∷◌}
 use lib.IntN.{pos, negsuc}
 use Rattle.answer.specs.declared.Refusal.TheVariants.{CountsOutside, BusWrong, BranchWrong, NotBalanced, TooShort}
-use Rattle.answer.specs.Answer.{Accepted, At, refused}
+use Rattle.answer.specs.Answer.{Accepted, refused}
 use Rattle.rows.specs.Sum.{over}
 use Rattle.layout.specs.declared.Form.TheVariants.{Old, New}
 use Rattle.layout.specs.Fault.{bus_fault, branch_fault, first_fault}

@@ -4,14 +4,11 @@ use mathlib.Core.Bool.{true, false, not, ◌||◌}
 use mathlib.Core.List.{List, [], ◌∷◌, ◌++◌}
 use Prim.Native.Nat.{ℕ, ◌*◌, ◌<◌, ◌≤◌}
 use native.Mathlib.Omega.{arith}
-use borrow.Author.Tests.{lt-ltb, le-ltb, ltb-false, not-false}
+use borrow.Author.Tests.{le-ltb, ltb-false, not-false}
 use lib.Dec.{ltb}
 use lib.IntN.{ℤ, pos}
 use lib.ListN.{length, drop, replicate}
-use Rattle.std.specs.Prelude.{Option}
-use Rattle.answer.specs.declared.Place.{Place}
-use Rattle.answer.specs.declared.Refusal.TheVariants.{CountsOutside, NotBalanced, TooShort}
-use Rattle.answer.specs.Answer.{Answer, Accepted, At, Nowhere, refused}
+use Rattle.answer.specs.Answer.{Answer, Accepted, Nowhere}
 use Rattle.rows.proofs.Row.{either_false, length_up_to, get_d_up_to}
 use Rattle.answer.proofs.Refusals.{past, past_at}
 use Rattle.bits.specs.Fields.{puts, put_items}

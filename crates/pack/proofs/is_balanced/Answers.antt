@@ -1,5 +1,4 @@
 -- Injections without fault are small enough to be summed.
-use Rattle.std.proofs.Common.{rules}
 use Rattle.pack.proofs.SmallEntries.{small_entry}
 use Rattle.pack.proofs.is_balanced.Goals as goal
 

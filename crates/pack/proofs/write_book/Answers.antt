@@ -4,12 +4,12 @@ use mathlib.Core.Path.{◌≡◌, sym, ◌∙◌}
 use lib.ListN.{length, take}
 use lib.Seq.{length-take-le}
 use Rattle.pack.proofs.Writable.{Writable, writable, exact_fits, write_refused, write_done}
-use Rattle.answer.proofs.Refusals.{gave_up}
+use Rattle.answer.proofs.Refusals.{gave_up, handed_on}
 use Rattle.pack.proofs.write_book.Goals as goal
 
 pub returns-in_err-check_tables : goal.returns-in_err-check_tables
 returns-in_err-check_tables c =
-    write_refused _ _ _ _ _ _ _ _ c.check_tables.ensures _ (gave_up c.in_err-check_tables.was) (sym c.in_err-check_tables.was)
+    write_refused _ _ _ _ _ _ _ _ c.check_tables.ensures _ (gave_up c.in_err-check_tables.was) (handed_on c.in_err-check_tables.was c.from_residual.ensures)
 
 pub bytes_for-end-requires : goal.bytes_for-end-requires
 bytes_for-end-requires c =
