@@ -1,6 +1,7 @@
 -- The ways in which reading a book ends.
-use mathlib.Core.Path.{◌≡◌, refl, sym, ap, ◌∙◌}
+use mathlib.Core.Path.{◌≡◌, refl, sym, ◌∙◌}
 use mathlib.Core.Bool.{Bool, true, false, ◌||◌}
+use mathlib.Core.Logic.{◌⊎◌, inl, inr}
 use mathlib.Core.List.{List, ◌++◌}
 use Prim.Native.Nat.{ℕ, ◌*◌, ◌<◌, ◌≤◌}
 use borrow.Author.Tests.{lt-ltb, le-ltb}
@@ -48,11 +49,12 @@ module _ (bs : List ℕ) (inj : List ℤ) (bra : List ℕ) (g : Bytes bs) (o : A
     unfolding read_check
     short x y p q = rw (passed, ← w.form_is, ← w.buses_are, ← w.branches_are, p, q) refl
 
-    pub read_few_injections : (o' : Answer) (r : Answer) → length inj < h.buses → o' ≡ refused TooShort → r ≡ o' → BookRead bs inj inj bra bra r
-    read_few_injections o' r l e q = kept bs inj bra (refused TooShort) r g (short true _ (lt-ltb _ _ l) refl) (refusal_stands TooShort) (q ∙ e)
-
-    pub read_few_branches : (o' : Answer) (r : Answer) → h.buses ≤ length inj → length bra < fields h.form * h.branches → o' ≡ refused TooShort → r ≡ o' → BookRead bs inj inj bra bra r
-    read_few_branches o' r u l e q = kept bs inj bra (refused TooShort) r g (short false true (le-ltb _ _ u) (lt-ltb _ _ l)) (refusal_stands TooShort) (q ∙ e)
+    pub read_short : (r : Answer) → (length inj < h.buses) ⊎ ((h.buses ≤ length inj) × (length bra < fields h.form * h.branches)) → r ≡ refused TooShort → BookRead bs inj inj bra bra r
+    read_short r l q = kept bs inj bra (refused TooShort) r g (either l) (refusal_stands TooShort) q
+      where
+        either : (length inj < h.buses) ⊎ ((h.buses ≤ length inj) × (length bra < fields h.form * h.branches)) → read_check bs (length inj) (length bra) ≡ refused TooShort
+        either (inl i) = short true _ (lt-ltb _ _ i) refl
+        either (inr b) = short false true (le-ltb _ _ b.0) (lt-ltb _ _ b.1)
 
     all_injections : headed h.buses (injection_at bs) inj ≡ (book_of bs).injections ++ drop (buses_in bs) inj
     unfolding book_of

@@ -1,7 +1,7 @@
 // The packed book: read or refused. The rows that a screen works on: `cases`.
 #![tactic(auto)]
 
-ghost use Rattle.std.specs.Prelude.{◌≡◌, ◌*◌, ◌≤◌, length};
+ghost use Rattle.std.specs.Prelude.{◌≡◌, ◌*◌, ◌<◌, ◌≤◌, length};
 ghost use Rattle.rows.specs.Row.{headed};
 ghost use Rattle.layout.specs.Fault.{first_fault};
 ghost use Rattle.layout.specs.Form.{fields, branch_values};
@@ -66,12 +66,13 @@ fn is_balanced(book: &[u8], buses: usize) -> bool
     requires { buses ≤ 128 }
     ensures { result ≡ balances buses (injection_at book.now) }
 {
-    layout::is_balanced(buses, |k| -> i32
-        requires { k < 128 }
-        ensures { result ≡ injection_at book.entry.now k }
-    {
-        injection_at(book, k)
-    })
+    layout::is_balanced(
+        buses,
+        |k| -> i32
+            requires { k < 128 }
+            ensures { result ≡ injection_at book.entry.now k }
+        { injection_at(book, k) },
+    )
 }
 
 // The tests after the header's: 4 to 7.
