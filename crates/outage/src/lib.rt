@@ -8,7 +8,6 @@ ghost use Rattle.outage.specs.Inside.{Marked};
 ghost use Rattle.outage.specs.Promise.{TakeEnds, TakeCounted};
 
 use answer::{Answer, Outcome};
-use reroute::Verdict;
 
 // The bits of the branches whose flow changed, and of the branch taken out.
 fn touch(branches: usize, before: [u32; 256], after: [u32; 256], branch: usize) -> [u8; 32]
@@ -59,21 +58,17 @@ pub fn take_out_counted(
     let Outcome::Accepted = found else {
         return told(found, 0);
     };
-    let lent = state::survey_lent(percent, book, flow);
-    let fits = lent.fits;
-    if !fits {
+    let Some(lent) = state::survey_lent(percent, book, flow) else {
         return told(answer::refuse(11), 0);
-    }
+    };
     let wires = lent.wires;
     let live = lent.live;
     let brief = lent.brief;
     let latent = lent.latent;
     let named = record::reroute_of(record::stretch(table, branch));
     let judged = replace::replace(wires, live, latent, named, branch);
-    let verdict = judged.verdict;
-    if let Verdict::Short { excess } = verdict {
-        let group = judged.group;
-        return short(excess, group);
+    if let Some(lack) = judged.short {
+        return short(lack.excess, lack.group);
     }
     let before = latent.ahead;
     let left = judged.latent;

@@ -26,17 +26,18 @@ pub struct Moved {
     pub left: u32,
 }
 
+// By how much a network is short, and the smallest group with that excess.
 #[derive(Clone, Copy)]
-pub enum Verdict {
-    Carries,
-    Short { excess: u32 },
+pub struct Shortfall {
+    pub excess: u32,
+    pub group: [u8; 16],
 }
 
+// What is latent then; the network carries where nothing is short.
 #[derive(Clone, Copy)]
 pub struct Judgement {
-    pub verdict: Verdict,
     pub latent: Latent,
-    pub group: [u8; 16],
+    pub short: Option<Shortfall>,
 }
 
 fn role(surplus: u32, deficit: u32) -> u8
@@ -156,18 +157,14 @@ fn judge(moved: Moved) -> Judgement
     ensures { Judged moved result }
 {
     let latent = moved.latent;
+    let excess = moved.left;
     let group = moved.group;
-    let left = moved.left;
-    let verdict = if left == 0 {
-        Verdict::Carries
+    let short = if excess == 0 {
+        None
     } else {
-        Verdict::Short { excess: left }
+        Some(Shortfall { excess, group })
     };
-    Judgement {
-        verdict,
-        latent,
-        group,
-    }
+    Judgement { latent, short }
 }
 
 // A flow that the network carries, or by how much it is short, and the smallest group that is short by so much.

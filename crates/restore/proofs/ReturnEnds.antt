@@ -1,11 +1,12 @@
 -- Each way in which a return ends meets its promise.
 use mathlib.Core.Path.{◌≡◌, refl, ap, ◌∙◌}
-use mathlib.Core.Bool.{Bool, true, false}
+use mathlib.Core.Bool.{Bool, true}
 use mathlib.Core.List.{List}
 use Prim.Native.Nat.{ℕ, ◌<◌}
 use native.Mathlib.Omega.{arith}
 use lib.IntN.{ℤ}
 use lib.ListN.{length}
+use Rattle.std.specs.Prelude.{Option, None}
 use Rattle.rows.specs.Row.{member}
 use Rattle.answer.specs.declared.Refusal.TheVariants.{FlowUnfit}
 use Rattle.answer.specs.Answer.{Answer, Accepted, refused}
@@ -18,7 +19,7 @@ use Rattle.search.specs.declared.Latent.{Latent}
 use Rattle.verdict.specs.Case.{Case, back, on}
 use Rattle.state.specs.Case.{case_in}
 use Rattle.state.specs.Call.{lent, refuses, unfit, accepts}
-use Rattle.state.specs.Inside.{State, Surveyed, Raisable, Raised, Poised, Listing, Rewritten}
+use Rattle.state.specs.Inside.{State, Surveyed, Surveys, Raisable, Raised, Poised, Listing, Rewritten}
 use Rattle.state.specs.declared.Survey.{Survey}
 use Rattle.state.proofs.Raising.{raisable, raised_state}
 use Rattle.state.proofs.Rewriting.{renewed}
@@ -49,54 +50,54 @@ module _ (percent : ℕ) (bs : List ℕ) (flow : List ℤ) (table : List ℕ) (b
     pub may : Returnable percent bs (length flow) (length table) b
     may = returnable bs (length flow) (length table) b ok
 
+    pub ends_unfit : {o : Option Survey} {r : Answer} → Surveys percent bs flow o → o ≡ None → r ≡ refused FlowUnfit
+        → BackEnds percent b (lent bs flow table) (lent bs flow table) r
+    ends_unfit p e a = unfit ok (p.unfit e) (rw a (said_refused FlowUnfit (λ z. omega arith) (λ z. omega arith))) refl
+
     module _ (q : Survey) (p : Surveyed percent bs flow q) where
       there : b < C.branches
       there = branch_there p may.there
 
-      pub ends_unfit : {r : Answer} → q.fits ≡ false → r ≡ refused FlowUnfit → BackEnds percent b (lent bs flow table) (lent bs flow table) r
-      ends_unfit e a = unfit ok (p.unfit e) (rw a (said_refused FlowUnfit (λ z. omega arith) (λ z. omega arith))) refl
+      pub raisable_here : Raisable q.wires.branches q.live q.brief q.latent
+      raisable_here = raisable C (on flow) q.wires q.served q.live q.brief q.latent p.state p.held
 
-      module _ (e : q.fits ≡ true) where
-        pub raisable_here : Raisable q.wires.branches q.live q.brief q.latent
-        raisable_here = raisable C (on flow) q.wires q.served q.live q.brief q.latent (p.fitting e) p.held
+      module _ (up : Latent)
+          (raised : Raised q.wires.branches q.live q.brief q.latent up)
+          {served : List Bool} {brief ahead back_row : List ℕ}
+          (served_is : With q.served b true served) (brief-is : With q.brief b (kw_at q.loss b) brief)
+          (ahead_is : With up.ahead b (kw_at q.loss b) ahead) (back_is : With up.back b (kw_at q.loss b) back_row) where
+        state : State C (on flow) q.wires q.served q.brief up
+        state = raised_state C (on flow) q.wires q.served q.live q.brief q.latent p.state p.held raised
 
-        module _ (up : Latent)
-            (raised : Raised q.wires.branches q.live q.brief q.latent up)
-            {served : List Bool} {brief ahead back_row : List ℕ}
-            (served_is : With q.served b true served) (brief-is : With q.brief b (kw_at q.loss b) brief)
-            (ahead_is : With up.ahead b (kw_at q.loss b) ahead) (back_is : With up.back b (kw_at q.loss b) back_row) where
-          state : State C (on flow) q.wires q.served q.brief up
-          state = raised_state C (on flow) q.wires q.served q.live q.brief q.latent (p.fitting e) p.held raised
+        abbrev left : Latent
+        left = record { ahead = ahead; back = back_row }
 
-          abbrev left : Latent
-          left = record { ahead = ahead; back = back_row }
+        state_here : State (back C b) (on flow) q.wires served brief left
+        state_here = rw (served_is.row_is, brief-is.row_is, ahead_is.row_is, back_is.row_is)
+            (comeback.state_back C (on flow) q.wires q.served q.brief up state b there may.out_now (kw_at q.loss b) (p.loss_is b)
+            served_is.long brief-is.long ahead_is.long back_is.long)
 
-          state_here : State (back C b) (on flow) q.wires served brief left
-          state_here = rw (served_is.row_is, brief-is.row_is, ahead_is.row_is, back_is.row_is)
-              (comeback.state_back C (on flow) q.wires q.served q.brief up state b there may.out_now (kw_at q.loss b) (p.loss_is b)
-              served_is.long brief-is.long ahead_is.long back_is.long)
+        pub poised_here : Poised q.wires served brief left
+        poised_here = record { case = back C b; flow = on flow; state = state_here }
 
-          pub poised_here : Poised q.wires served brief left
-          poised_here = record { case = back C b; flow = on flow; state = state_here }
-
-          pub ends_back : {bs' table' bits : List ℕ} {losses : ℕ} {r : Answer} → r ≡ Accepted → Listing q.wires.branches (anew_at table b) bits
-              → bs' ≡ set_bit bs (status_bit bs b) 1
-              → ((D : Case) (f : ℕ → ℤ) → State D f q.wires served brief left → Rewritten D f served bits table table' losses)
-              → BackEnds percent b (lent bs flow table) (lent bs' flow table') r
-          ends_back {bs'} {table'} {bits} a list book_is fresh =
-              let c = restates percent bs b 1 may.passes.book may.there (omega arith) in
-              let redone = (fresh (back C b) (on flow) state_here).table_is in
-              let bit : (k : ℕ) → k < C.branches → k < q.wires.branches = λ k u. omega (arith, p.held.branches_are) in
-              let anew = renewed (back C b) (Anew table b) state_here.fits redone
-              (λ k u h. list.bit k (bit k u) ∙ anew_listed table b k h) (λ k u h. list.bit k (bit k u) ∙ anew_unlisted table b k h) refl
-              (λ k u. refl) in
-              accepts ok state.fits (rw a said_accepted) (record {
-                book_is = book_is;
-                book_accepted = rw book_is c.book;
-                case_is = rw book_is c.case_is;
-                flow_is = refl;
-                own_is = comeback.own_back C (on flow) q.wires q.served q.brief up state b there may.out_now (kw_at q.loss b)
-                    (p.loss_is b)
-                    served_is.long brief-is.long ahead_is.long back_is.long _ (anew.rewritten b there (itself refl));
-                renewed = anew;
-              })
+        pub ends_back : {bs' table' bits : List ℕ} {losses : ℕ} {r : Answer} → r ≡ Accepted → Listing q.wires.branches (anew_at table b) bits
+            → bs' ≡ set_bit bs (status_bit bs b) 1
+            → ((D : Case) (f : ℕ → ℤ) → State D f q.wires served brief left → Rewritten D f served bits table table' losses)
+            → BackEnds percent b (lent bs flow table) (lent bs' flow table') r
+        ends_back {bs'} {table'} {bits} a list book_is fresh =
+            let c = restates percent bs b 1 may.passes.book may.there (omega arith) in
+            let redone = (fresh (back C b) (on flow) state_here).table_is in
+            let bit : (k : ℕ) → k < C.branches → k < q.wires.branches = λ k u. omega (arith, p.held.branches_are) in
+            let anew = renewed (back C b) (Anew table b) state_here.fits redone
+            (λ k u h. list.bit k (bit k u) ∙ anew_listed table b k h) (λ k u h. list.bit k (bit k u) ∙ anew_unlisted table b k h) refl
+            (λ k u. refl) in
+            accepts ok state.fits (rw a said_accepted) (record {
+              book_is = book_is;
+              book_accepted = rw book_is c.book;
+              case_is = rw book_is c.case_is;
+              flow_is = refl;
+              own_is = comeback.own_back C (on flow) q.wires q.served q.brief up state b there may.out_now (kw_at q.loss b)
+                  (p.loss_is b)
+                  served_is.long brief-is.long ahead_is.long back_is.long _ (anew.rewritten b there (itself refl));
+              renewed = anew;
+            })

@@ -52,11 +52,9 @@ pub fn bring_back(
     let Outcome::Accepted = found else {
         return answer::answer_with(found);
     };
-    let lent = state::survey_lent(percent, book, flow);
-    let fits = lent.fits;
-    if !fits {
+    let Some(lent) = state::survey_lent(percent, book, flow) else {
         return answer::answer_with(answer::refuse(11));
-    }
+    };
     let wires = lent.wires;
     let loss = lent.loss;
     let kw = loss[branch].0;

@@ -5,7 +5,6 @@ ghost use Rattle.state.specs.Call.{lent};
 ghost use Rattle.screen.specs.Promise.{ScreenEnds};
 
 use answer::{Answer, Outcome};
-use reroute::Verdict;
 
 // Refusals 21, 1 to 8 and 12; accepted, a flow within the normal limits, and the record of every branch's loss, judged by the second.
 pub fn screen(percent: u32, book: &[u8], flow: &mut [i32], table: &mut [u8]) -> Answer
@@ -22,11 +21,10 @@ pub fn screen(percent: u32, book: &[u8], flow: &mut [i32], table: &mut [u8]) -> 
     let gain = plan.gain;
     let load = plan.load;
     let base = reroute::base_flow(wires, live, gain, load);
-    let verdict = base.verdict;
-    if let Verdict::Short { excess } = verdict {
-        let group = base.group;
+    if let Some(short) = base.short {
+        let group = short.group;
         return Answer {
-            outcome: Outcome::Overloaded(excess),
+            outcome: Outcome::Overloaded(short.excess),
             group,
         };
     }

@@ -11,14 +11,13 @@ ghost use Rattle.verdict.specs.Excess.{Short};
 ghost use Rattle.verdict.specs.Island.{ShortNumber};
 ghost use Rattle.verdict.specs.Record.{TrueRecord};
 ghost use Rattle.state.specs.Call.{lent_check};
-ghost use Rattle.state.specs.Inside.{State, Poised, Changed, Live, Plannable, Planned, Surveyable, Surveyed, RowRaisable, RowRaised, Raisable, Raised};
+ghost use Rattle.state.specs.Inside.{State, Poised, Changed, Live, Plannable, Planned, Surveyable, Surveys, RowRaisable, RowRaised, Raisable, Raised};
 ghost use Rattle.search.specs.declared.Latent.{Latent};
 ghost use Rattle.state.specs.Inside.{Fillable, Severable, Rewritten};
 
 use answer::Outcome;
 use book::CaseRows;
 use quantity::Kw;
-use reroute::Verdict;
 use search::{Latent, Wires};
 
 // The limits in `live` are the normal ones, and those in `brief` what a loss is judged by; both are 0 for a branch out of service.
@@ -93,7 +92,7 @@ pub fn prepare(rows: CaseRows) -> Plan
     }
 }
 
-// A lent book and flow: its rows, whether the flow fits, and the latent capacities that a fitting flow leaves of the normal limits.
+// A lent book and a flow that fits it: the rows of the book, and the latent capacities that the flow leaves of the normal limits.
 #[derive(Clone, Copy)]
 pub struct Survey {
     pub wires: Wires,
@@ -101,13 +100,12 @@ pub struct Survey {
     pub loss: [Kw; 256],
     pub live: [u32; 256],
     pub brief: [u32; 256],
-    pub fits: bool,
     pub latent: Latent,
 }
 
-pub fn survey_lent(percent: u32, book: &[u8], flow: &[i32]) -> Survey
+pub fn survey_lent(percent: u32, book: &[u8], flow: &[i32]) -> Option<Survey>
     requires { Surveyable percent book.now (length flow.now) }
-    ensures { Surveyed percent book.now flow.now result }
+    ensures { Surveys percent book.now flow.now result }
 {
     let rows = book::rows_of(percent, book);
     let loss = rows.loss;
@@ -118,18 +116,15 @@ pub fn survey_lent(percent: u32, book: &[u8], flow: &[i32]) -> Survey
     let brief = plan.brief;
     let gain = plan.gain;
     let load = plan.load;
-    let lending = fit::test(flow, wires, live, gain, load);
-    let fits = lending.fits;
-    let latent = lending.latent;
-    Survey {
+    let latent = fit::test(flow, wires, live, gain, load)?;
+    Some(Survey {
         wires,
         served,
         loss,
         live,
         brief,
-        fits,
         latent,
-    }
+    })
 }
 
 fn raised_row(branches: usize, live: [u32; 256], brief: [u32; 256], row: [u32; 256]) -> [u32; 256]
@@ -230,8 +225,7 @@ pub fn put_verdict(
         return;
     }
     let judged = reroute::loss(wires, live, latent, k);
-    let verdict = judged.verdict;
-    let Verdict::Short { excess } = verdict else {
+    let Some(short) = judged.short else {
         let before = latent.ahead;
         let left = judged.latent;
         let after = left.ahead;
@@ -239,13 +233,12 @@ pub fn put_verdict(
         record::write(rec, 1, 0, [0u8; 16], reroute);
         return;
     };
-    let group = judged.group;
     // If its loss would island, it is short by its whole flow.
     let mut number: u8 = 2;
-    if excess == quantity::apart(live[k], latent.ahead[k]) {
-        number = short_number(wires, served, live, k, group);
+    if short.excess == quantity::apart(live[k], latent.ahead[k]) {
+        number = short_number(wires, served, live, k, short.group);
     }
-    record::write(rec, number, excess, group, [0u8; 32]);
+    record::write(rec, number, short.excess, short.group, [0u8; 32]);
 }
 
 fn counted(judged: usize, more: bool) -> usize

@@ -7,7 +7,6 @@ ghost use Rattle.transfer.specs.Inside.{TwoBuses, Shiftable};
 ghost use Rattle.transfer.specs.Promise.{leaves_range, transfer_check, shifted_bytes, TransferEnds};
 
 use answer::{Answer, Outcome};
-use reroute::Verdict;
 
 // By how much an injection may rise, of which so much lies above 0 and so much below. By how much it may fall, the other way round.
 fn room(above: u32, below: u32) -> u32
@@ -93,22 +92,19 @@ pub fn move_load(
     let Outcome::Accepted = found else {
         return answer::answer_with(found);
     };
-    let lent = state::survey_lent(percent, book, flow);
-    let fits = lent.fits;
-    if !fits {
+    let Some(lent) = state::survey_lent(percent, book, flow) else {
         return answer::answer_with(answer::refuse(11));
-    }
+    };
     let wires = lent.wires;
     let served = lent.served;
     let live = lent.live;
     let brief = lent.brief;
     let latent = lent.latent;
     let judged = reroute::deliver(wires, latent, up, down, kw);
-    let verdict = judged.verdict;
-    if let Verdict::Short { excess } = verdict {
-        let group = judged.group;
+    if let Some(short) = judged.short {
+        let group = short.group;
         return Answer {
-            outcome: Outcome::Overloaded(excess),
+            outcome: Outcome::Overloaded(short.excess),
             group,
         };
     }

@@ -1,16 +1,12 @@
 -- The outage call: its checks, the test of the lent flow, the reroute, and what is then written.
-use borrow.Author.Rules.{rules}
 use native.Mathlib.Omega.{arith}
 use mathlib.Core.Path.{◌≡◌, sym, ap, ◌∙◌}
-use mathlib.Core.Bool.{true}
 use mathlib.Core.List.{List}
 use Prim.Native.Nat.{ℕ, ◌*◌, ◌<◌, ◌≤◌}
-use borrow.Author.Tests.{not-false}
 use lib.IntN.{ℤ}
 use lib.ListN.{length, take, drop}
-use Rattle.answer.specs.Answer.{bare}
-use Rattle.answer.specs.declared.Outcome.TheVariants.{Accepted}
-use Rattle.reroute.specs.declared.Verdict.TheVariants.{Carries}
+use Rattle.answer.specs.Answer.{Accepted}
+use Rattle.std.specs.Prelude.{None}
 use Rattle.state.specs.Inside.{Poised}
 use Rattle.state.proofs.Surveying.{surveyable, sizes}
 use Rattle.outage.specs.Promise.{take_check}
@@ -20,8 +16,8 @@ use Rattle.outage.proofs.take_out_counted.Goals as goal
 pub returns-in_default : goal.returns-in_default
 returns-in_default c = ends_refused _ _ _ _ _ _ c.check-found.ensures c.in_default.not-Accepted c.told.ensures
 
-pub survey_lent-lent-requires : goal.survey_lent-lent-requires
-survey_lent-lent-requires c =
+pub survey_lent-requires : goal.survey_lent-requires
+survey_lent-requires c =
     let bytes : List ℕ = c.args.book.now in
     let lent_flow : List ℤ = c.args.flow.now in
     let lent_table : List ℕ = c.args.table.now in
@@ -29,15 +25,15 @@ survey_lent-lent-requires c =
     let ok : take_check c.args.percent bytes (length lent_flow) (length lent_table) lost ≡ Accepted = sym c.check-found.ensures ∙ c.in-Accepted.is in
     surveyable (may _ bytes lent_flow lent_table lost ok).passes
 
-pub returns-then-not-fits : goal.returns-then-not-fits
-returns-then-not-fits c =
+pub returns-in_default-survey_lent : goal.returns-in_default-survey_lent
+returns-in_default-survey_lent c =
     let bytes : List ℕ = c.args.book.now in
     let lent_flow : List ℤ = c.args.flow.now in
     let lent_table : List ℕ = c.args.table.now in
     let lost : ℕ = c.args.branch in
     let ok : take_check c.args.percent bytes (length lent_flow) (length lent_table) lost ≡ Accepted = sym c.check-found.ensures ∙ c.in-Accepted.is in
-    ends_unfit _ bytes lent_flow lent_table lost ok _ c.survey_lent-lent.ensures (c.if-not-fits.true)
-    (c.told-then-not-fits.ensures.0 ∙ c.refuse.ensures) c.told-then-not-fits.ensures.1
+    ends_unfit _ bytes lent_flow lent_table lost ok c.survey_lent.ensures c.in_default-survey_lent.is
+    (c.told-in_default-survey_lent.ensures.0 ∙ c.refuse.ensures) c.told-in_default-survey_lent.ensures.1
 
 pub stretch-requires : goal.stretch-requires
 stretch-requires c =
@@ -46,8 +42,8 @@ stretch-requires c =
     let lent_flow : List ℤ = c.args.flow.now in
     let lent_table : List ℕ = c.args.table.now in
     let ok : take_check c.args.percent bytes (length lent_flow) (length lent_table) lost ≡ Accepted = sym c.check-found.ensures ∙ c.in-Accepted.is in
-    let sizes_at : (c.survey_lent-lent.result.wires.buses ≤ 128) × (c.survey_lent-lent.result.wires.branches ≤ 256) × (lost < c.survey_lent-lent.result.wires.branches) = sizes c.survey_lent-lent.ensures (may _ bytes lent_flow lent_table lost ok).there in
-    let table_room : 52 * c.survey_lent-lent.result.wires.branches ≤ length lent_table = omega (arith, (may _ bytes lent_flow lent_table lost ok).passes.table_room, c.survey_lent-lent.ensures.branches_are) in
+    let sizes_at : (c.in-Some.lent.wires.buses ≤ 128) × (c.in-Some.lent.wires.branches ≤ 256) × (lost < c.in-Some.lent.wires.branches) = sizes (c.survey_lent.ensures.fitting _ c.in-Some.is) (may _ bytes lent_flow lent_table lost ok).there in
+    let table_room : 52 * c.in-Some.lent.wires.branches ≤ length lent_table = omega (arith, (may _ bytes lent_flow lent_table lost ok).passes.table_room, (c.survey_lent.ensures.fitting _ c.in-Some.is).branches_are) in
     omega (arith, table_room, sizes_at)
 
 pub reroute_of-named-requires : goal.reroute_of-named-requires
@@ -60,19 +56,17 @@ replace-judged-requires c =
     let lent_table : List ℕ = c.args.table.now in
     let lost : ℕ = c.args.branch in
     let ok : take_check c.args.percent bytes (length lent_flow) (length lent_table) lost ≡ Accepted = sym c.check-found.ensures ∙ c.in-Accepted.is in
-    losable_here _ bytes lent_flow lent_table lost ok _ c.survey_lent-lent.ensures (c.if-not-fits.false)
+    losable_here _ bytes lent_flow lent_table lost ok _ (c.survey_lent.ensures.fitting _ c.in-Some.is)
 
-pub returns-in-Short : goal.returns-in-Short
-returns-in-Short c =
+pub returns-in-Some-short : goal.returns-in-Some-short
+returns-in-Some-short c =
     let bytes : List ℕ = c.args.book.now in
     let lent_flow : List ℤ = c.args.flow.now in
     let lent_table : List ℕ = c.args.table.now in
     let lost : ℕ = c.args.branch in
     let ok : take_check c.args.percent bytes (length lent_flow) (length lent_table) lost ≡ Accepted = sym c.check-found.ensures ∙ c.in-Accepted.is in
-    let group_long : length c.replace-judged.result.group ≡ 16 = search rules in
-    let fitting : c.survey_lent-lent.result.fits ≡ true = not-false _ c.if-not-fits.false-raw in
-    ends_short _ bytes lent_flow lent_table lost ok _ c.survey_lent-lent.ensures fitting _ _ c.replace-judged.ensures _
-    c.in-Short.is group_long c.short.ensures
+    ends_short _ bytes lent_flow lent_table lost ok _ (c.survey_lent.ensures.fitting _ c.in-Some.is) _ _ c.replace-judged.ensures _
+    c.in-Some-short.is c.short.ensures
 
 pub touch-touched-requires : goal.touch-touched-requires
 touch-touched-requires c =
@@ -81,7 +75,7 @@ touch-touched-requires c =
     let lent_flow : List ℤ = c.args.flow.now in
     let lent_table : List ℕ = c.args.table.now in
     let ok : take_check c.args.percent bytes (length lent_flow) (length lent_table) lost ≡ Accepted = sym c.check-found.ensures ∙ c.in-Accepted.is in
-    let sizes_at : (c.survey_lent-lent.result.wires.buses ≤ 128) × (c.survey_lent-lent.result.wires.branches ≤ 256) × (lost < c.survey_lent-lent.result.wires.branches) = sizes c.survey_lent-lent.ensures (may _ bytes lent_flow lent_table lost ok).there in
+    let sizes_at : (c.in-Some.lent.wires.buses ≤ 128) × (c.in-Some.lent.wires.branches ≤ 256) × (lost < c.in-Some.lent.wires.branches) = sizes (c.survey_lent.ensures.fitting _ c.in-Some.is) (may _ bytes lent_flow lent_table lost ok).there in
     let s = sizes_at in (s.1, s.2)
 
 pub served_with-served-requires : goal.served_with-served-requires
@@ -91,7 +85,7 @@ served_with-served-requires c =
     let lent_flow : List ℤ = c.args.flow.now in
     let lent_table : List ℕ = c.args.table.now in
     let ok : take_check c.args.percent bytes (length lent_flow) (length lent_table) lost ≡ Accepted = sym c.check-found.ensures ∙ c.in-Accepted.is in
-    let sizes_at : (c.survey_lent-lent.result.wires.buses ≤ 128) × (c.survey_lent-lent.result.wires.branches ≤ 256) × (lost < c.survey_lent-lent.result.wires.branches) = sizes c.survey_lent-lent.ensures (may _ bytes lent_flow lent_table lost ok).there in
+    let sizes_at : (c.in-Some.lent.wires.buses ≤ 128) × (c.in-Some.lent.wires.branches ≤ 256) × (lost < c.in-Some.lent.wires.branches) = sizes (c.survey_lent.ensures.fitting _ c.in-Some.is) (may _ bytes lent_flow lent_table lost ok).there in
     let s = sizes_at in omega (arith, s.1, s.2)
 
 pub kw_with-limits-requires : goal.kw_with-limits-requires
@@ -101,7 +95,7 @@ kw_with-limits-requires c =
     let lent_flow : List ℤ = c.args.flow.now in
     let lent_table : List ℕ = c.args.table.now in
     let ok : take_check c.args.percent bytes (length lent_flow) (length lent_table) lost ≡ Accepted = sym c.check-found.ensures ∙ c.in-Accepted.is in
-    let sizes_at : (c.survey_lent-lent.result.wires.buses ≤ 128) × (c.survey_lent-lent.result.wires.branches ≤ 256) × (lost < c.survey_lent-lent.result.wires.branches) = sizes c.survey_lent-lent.ensures (may _ bytes lent_flow lent_table lost ok).there in
+    let sizes_at : (c.in-Some.lent.wires.buses ≤ 128) × (c.in-Some.lent.wires.branches ≤ 256) × (lost < c.in-Some.lent.wires.branches) = sizes (c.survey_lent.ensures.fitting _ c.in-Some.is) (may _ bytes lent_flow lent_table lost ok).there in
     let s = sizes_at in omega (arith, s.1, s.2)
 
 pub kw_with-briefs-requires : goal.kw_with-briefs-requires
@@ -111,7 +105,7 @@ kw_with-briefs-requires c =
     let lent_flow : List ℤ = c.args.flow.now in
     let lent_table : List ℕ = c.args.table.now in
     let ok : take_check c.args.percent bytes (length lent_flow) (length lent_table) lost ≡ Accepted = sym c.check-found.ensures ∙ c.in-Accepted.is in
-    let sizes_at : (c.survey_lent-lent.result.wires.buses ≤ 128) × (c.survey_lent-lent.result.wires.branches ≤ 256) × (lost < c.survey_lent-lent.result.wires.branches) = sizes c.survey_lent-lent.ensures (may _ bytes lent_flow lent_table lost ok).there in
+    let sizes_at : (c.in-Some.lent.wires.buses ≤ 128) × (c.in-Some.lent.wires.branches ≤ 256) × (lost < c.in-Some.lent.wires.branches) = sizes (c.survey_lent.ensures.fitting _ c.in-Some.is) (may _ bytes lent_flow lent_table lost ok).there in
     let s = sizes_at in omega
     (arith, s.1, s.2)
 
@@ -122,8 +116,8 @@ shortlist-listed-requires c =
     let lent_flow : List ℤ = c.args.flow.now in
     let lent_table : List ℕ = c.args.table.now in
     let ok : take_check c.args.percent bytes (length lent_flow) (length lent_table) lost ≡ Accepted = sym c.check-found.ensures ∙ c.in-Accepted.is in
-    let sizes_at : (c.survey_lent-lent.result.wires.buses ≤ 128) × (c.survey_lent-lent.result.wires.branches ≤ 256) × (lost < c.survey_lent-lent.result.wires.branches) = sizes c.survey_lent-lent.ensures (may _ bytes lent_flow lent_table lost ok).there in
-    let table_room : 52 * c.survey_lent-lent.result.wires.branches ≤ length lent_table = omega (arith, (may _ bytes lent_flow lent_table lost ok).passes.table_room, c.survey_lent-lent.ensures.branches_are) in
+    let sizes_at : (c.in-Some.lent.wires.buses ≤ 128) × (c.in-Some.lent.wires.branches ≤ 256) × (lost < c.in-Some.lent.wires.branches) = sizes (c.survey_lent.ensures.fitting _ c.in-Some.is) (may _ bytes lent_flow lent_table lost ok).there in
+    let table_room : 52 * c.in-Some.lent.wires.branches ≤ length lent_table = omega (arith, (may _ bytes lent_flow lent_table lost ok).passes.table_room, (c.survey_lent.ensures.fitting _ c.in-Some.is).branches_are) in
     (sizes_at.1, table_room)
 
 pub fill_flow-requires : goal.fill_flow-requires
@@ -133,8 +127,7 @@ fill_flow-requires c =
     let lent_table : List ℕ = c.args.table.now in
     let lost : ℕ = c.args.branch in
     let ok : take_check c.args.percent bytes (length lent_flow) (length lent_table) lost ≡ Accepted = sym c.check-found.ensures ∙ c.in-Accepted.is in
-    let fitting : c.survey_lent-lent.result.fits ≡ true = not-false _ c.if-not-fits.false-raw in
-    fillable_here _ bytes lent_flow lent_table lost ok _ c.survey_lent-lent.ensures fitting _ _ c.replace-judged.ensures
+    fillable_here _ bytes lent_flow lent_table lost ok _ (c.survey_lent.ensures.fitting _ c.in-Some.is) _ _ c.replace-judged.ensures
     c.served_with-served.ensures c.kw_with-limits.ensures c.kw_with-briefs.ensures
 
 pub raise-raised-requires : goal.raise-raised-requires
@@ -144,9 +137,8 @@ raise-raised-requires c =
     let lent_table : List ℕ = c.args.table.now in
     let lost : ℕ = c.args.branch in
     let ok : take_check c.args.percent bytes (length lent_flow) (length lent_table) lost ≡ Accepted = sym c.check-found.ensures ∙ c.in-Accepted.is in
-    let fitting : c.survey_lent-lent.result.fits ≡ true = not-false _ c.if-not-fits.false-raw in
-    let carried : c.replace-judged.result.verdict ≡ Carries = c.in_default-verdict.is in
-    raisable_here _ bytes lent_flow lent_table lost ok _ c.survey_lent-lent.ensures fitting _ _ c.replace-judged.ensures
+    let carried : c.replace-judged.result.short ≡ None = c.in_default-short.is in
+    raisable_here _ bytes lent_flow lent_table lost ok _ (c.survey_lent.ensures.fitting _ c.in-Some.is) _ _ c.replace-judged.ensures
     c.served_with-served.ensures c.kw_with-limits.ensures c.kw_with-briefs.ensures carried _ c.fill_flow.ensures
 
 pub rewrite-losses-requires : goal.rewrite-losses-requires
@@ -156,11 +148,10 @@ rewrite-losses-requires c =
     let lent_flow : List ℤ = c.args.flow.now in
     let lost : ℕ = c.args.branch in
     let ok : take_check c.args.percent bytes (length lent_flow) (length lent_table) lost ≡ Accepted = sym c.check-found.ensures ∙ c.in-Accepted.is in
-    let table_room : 52 * c.survey_lent-lent.result.wires.branches ≤ length lent_table = omega (arith, (may _ bytes lent_flow lent_table lost ok).passes.table_room, c.survey_lent-lent.ensures.branches_are) in
-    let fitting : c.survey_lent-lent.result.fits ≡ true = not-false _ c.if-not-fits.false-raw in
-    let carried : c.replace-judged.result.verdict ≡ Carries = c.in_default-verdict.is in
+    let table_room : 52 * c.in-Some.lent.wires.branches ≤ length lent_table = omega (arith, (may _ bytes lent_flow lent_table lost ok).passes.table_room, (c.survey_lent.ensures.fitting _ c.in-Some.is).branches_are) in
+    let carried : c.replace-judged.result.short ≡ None = c.in_default-short.is in
     -- The rows that are left, as a state of the case without the branch.
-    let poised : Poised c.survey_lent-lent.result.wires c.served_with-served.result c.kw_with-briefs.result c.raise-raised.result = poised_here _ bytes lent_flow lent_table lost ok _ c.survey_lent-lent.ensures fitting _ _ c.replace-judged.ensures
+    let poised : Poised c.in-Some.lent.wires c.served_with-served.result c.kw_with-briefs.result c.raise-raised.result = poised_here _ bytes lent_flow lent_table lost ok _ (c.survey_lent.ensures.fitting _ c.in-Some.is) _ _ c.replace-judged.ensures
     c.served_with-served.ensures c.kw_with-limits.ensures c.kw_with-briefs.ensures carried _ c.fill_flow.ensures
     c.raise-raised.ensures in
     (poised, table_room)
@@ -172,7 +163,7 @@ set_status-requires c =
     let lent_flow : List ℤ = c.args.flow.now in
     let lent_table : List ℕ = c.args.table.now in
     let ok : take_check c.args.percent bytes (length lent_flow) (length lent_table) lost ≡ Accepted = sym c.check-found.ensures ∙ c.in-Accepted.is in
-    let sizes_at : (c.survey_lent-lent.result.wires.buses ≤ 128) × (c.survey_lent-lent.result.wires.branches ≤ 256) × (lost < c.survey_lent-lent.result.wires.branches) = sizes c.survey_lent-lent.ensures (may _ bytes lent_flow lent_table lost ok).there in
+    let sizes_at : (c.in-Some.lent.wires.buses ≤ 128) × (c.in-Some.lent.wires.branches ≤ 256) × (lost < c.in-Some.lent.wires.branches) = sizes (c.survey_lent.ensures.fitting _ c.in-Some.is) (may _ bytes lent_flow lent_table lost ok).there in
     let s = sizes_at in
     (omega (arith, s.1, s.2), omega arith)
 
@@ -183,9 +174,8 @@ returns c =
     let lent_table : List ℕ = c.args.table.now in
     let lost : ℕ = c.args.branch in
     let ok : take_check c.args.percent bytes (length lent_flow) (length lent_table) lost ≡ Accepted = sym c.check-found.ensures ∙ c.in-Accepted.is in
-    let fitting : c.survey_lent-lent.result.fits ≡ true = not-false _ c.if-not-fits.false-raw in
-    let carried : c.replace-judged.result.verdict ≡ Carries = c.in_default-verdict.is in
-    ends_taken _ bytes lent_flow lent_table lost ok _ c.survey_lent-lent.ensures fitting _ _ c.replace-judged.ensures
+    let carried : c.replace-judged.result.short ≡ None = c.in_default-short.is in
+    ends_taken _ bytes lent_flow lent_table lost ok _ (c.survey_lent.ensures.fitting _ c.in-Some.is) _ _ c.replace-judged.ensures
     c.served_with-served.ensures c.kw_with-limits.ensures c.kw_with-briefs.ensures carried _ c.fill_flow.ensures _
     c.touch-touched.ensures
     c.raise-raised.ensures c.told-2.ensures.0 c.told-2.ensures.1

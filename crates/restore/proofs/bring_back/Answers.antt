@@ -1,10 +1,8 @@
 -- The return: its checks, the test of the lent flow, the rows with the branch in service, and what is then written.
 use native.Mathlib.Omega.{arith}
 use mathlib.Core.Path.{◌≡◌, sym, ap, ◌∙◌}
-use mathlib.Core.Bool.{true}
 use mathlib.Core.List.{List}
 use Prim.Native.Nat.{ℕ, ◌*◌, ◌<◌, ◌≤◌}
-use borrow.Author.Tests.{not-false}
 use lib.IntN.{ℤ}
 use lib.ListN.{length}
 use Rattle.answer.specs.Answer.{Accepted}
@@ -17,8 +15,8 @@ use Rattle.restore.proofs.bring_back.Goals as goal
 pub returns-in_default : goal.returns-in_default
 returns-in_default c = ends_refused _ _ _ _ _ _ c.check-found.ensures c.in_default.not-Accepted c.answer_with.ensures
 
-pub survey_lent-lent-requires : goal.survey_lent-lent-requires
-survey_lent-lent-requires c =
+pub survey_lent-requires : goal.survey_lent-requires
+survey_lent-requires c =
     let bytes : List ℕ = c.args.book.now in
     let lent_flow : List ℤ = c.args.flow.now in
     let lent_table : List ℕ = c.args.table.now in
@@ -26,15 +24,15 @@ survey_lent-lent-requires c =
     let ok : back_check c.args.percent bytes (length lent_flow) (length lent_table) returning ≡ Accepted = sym c.check-found.ensures ∙ c.in-Accepted.is in
     surveyable (may _ bytes lent_flow lent_table returning ok).passes
 
-pub returns-then-not-fits : goal.returns-then-not-fits
-returns-then-not-fits c =
+pub returns-in_default-survey_lent : goal.returns-in_default-survey_lent
+returns-in_default-survey_lent c =
     let bytes : List ℕ = c.args.book.now in
     let lent_flow : List ℤ = c.args.flow.now in
     let lent_table : List ℕ = c.args.table.now in
     let returning : ℕ = c.args.branch in
     let ok : back_check c.args.percent bytes (length lent_flow) (length lent_table) returning ≡ Accepted = sym c.check-found.ensures ∙ c.in-Accepted.is in
-    ends_unfit _ bytes lent_flow lent_table returning ok _ c.survey_lent-lent.ensures (c.if-not-fits.true)
-    (c.answer_with-then-not-fits.ensures ∙ c.refuse.ensures)
+    ends_unfit _ bytes lent_flow lent_table returning ok c.survey_lent.ensures c.in_default-survey_lent.is
+    (c.answer_with-in_default-survey_lent.ensures ∙ c.refuse.ensures)
 
 pub offset_bounds-loss-branch : goal.offset_bounds-loss-branch
 offset_bounds-loss-branch c =
@@ -43,7 +41,7 @@ offset_bounds-loss-branch c =
     let lent_flow : List ℤ = c.args.flow.now in
     let lent_table : List ℕ = c.args.table.now in
     let ok : back_check c.args.percent bytes (length lent_flow) (length lent_table) returning ≡ Accepted = sym c.check-found.ensures ∙ c.in-Accepted.is in
-    let sizes_at : (c.survey_lent-lent.result.wires.buses ≤ 128) × (c.survey_lent-lent.result.wires.branches ≤ 256) × (returning < c.survey_lent-lent.result.wires.branches) = sizes c.survey_lent-lent.ensures (may _ bytes lent_flow lent_table returning ok).there in
+    let sizes_at : (c.in-Some.lent.wires.buses ≤ 128) × (c.in-Some.lent.wires.branches ≤ 256) × (returning < c.in-Some.lent.wires.branches) = sizes (c.survey_lent.ensures.fitting _ c.in-Some.is) (may _ bytes lent_flow lent_table returning ok).there in
     let below : returning < 256 = let s = sizes_at in omega (arith, s.1, s.2) in
     omega (arith, below)
 
@@ -54,7 +52,7 @@ bounds-loss-branch c =
     let lent_flow : List ℤ = c.args.flow.now in
     let lent_table : List ℕ = c.args.table.now in
     let ok : back_check c.args.percent bytes (length lent_flow) (length lent_table) returning ≡ Accepted = sym c.check-found.ensures ∙ c.in-Accepted.is in
-    let sizes_at : (c.survey_lent-lent.result.wires.buses ≤ 128) × (c.survey_lent-lent.result.wires.branches ≤ 256) × (returning < c.survey_lent-lent.result.wires.branches) = sizes c.survey_lent-lent.ensures (may _ bytes lent_flow lent_table returning ok).there in
+    let sizes_at : (c.in-Some.lent.wires.buses ≤ 128) × (c.in-Some.lent.wires.branches ≤ 256) × (returning < c.in-Some.lent.wires.branches) = sizes (c.survey_lent.ensures.fitting _ c.in-Some.is) (may _ bytes lent_flow lent_table returning ok).there in
     let below : returning < 256 = let s = sizes_at in omega (arith, s.1, s.2) in
     omega (arith, below)
 
@@ -65,7 +63,7 @@ raise-raised-requires c =
     let lent_table : List ℕ = c.args.table.now in
     let returning : ℕ = c.args.branch in
     let ok : back_check c.args.percent bytes (length lent_flow) (length lent_table) returning ≡ Accepted = sym c.check-found.ensures ∙ c.in-Accepted.is in
-    raisable_here _ bytes lent_flow lent_table returning ok _ c.survey_lent-lent.ensures (c.if-not-fits.false)
+    raisable_here _ bytes lent_flow lent_table returning ok _ (c.survey_lent.ensures.fitting _ c.in-Some.is)
 
 pub served_with-served-requires : goal.served_with-served-requires
 served_with-served-requires c =
@@ -74,7 +72,7 @@ served_with-served-requires c =
     let lent_flow : List ℤ = c.args.flow.now in
     let lent_table : List ℕ = c.args.table.now in
     let ok : back_check c.args.percent bytes (length lent_flow) (length lent_table) returning ≡ Accepted = sym c.check-found.ensures ∙ c.in-Accepted.is in
-    let sizes_at : (c.survey_lent-lent.result.wires.buses ≤ 128) × (c.survey_lent-lent.result.wires.branches ≤ 256) × (returning < c.survey_lent-lent.result.wires.branches) = sizes c.survey_lent-lent.ensures (may _ bytes lent_flow lent_table returning ok).there in
+    let sizes_at : (c.in-Some.lent.wires.buses ≤ 128) × (c.in-Some.lent.wires.branches ≤ 256) × (returning < c.in-Some.lent.wires.branches) = sizes (c.survey_lent.ensures.fitting _ c.in-Some.is) (may _ bytes lent_flow lent_table returning ok).there in
     let below : returning < 256 = let s = sizes_at in omega (arith, s.1, s.2) in
     below
 
@@ -85,7 +83,7 @@ kw_with-briefs-requires c =
     let lent_flow : List ℤ = c.args.flow.now in
     let lent_table : List ℕ = c.args.table.now in
     let ok : back_check c.args.percent bytes (length lent_flow) (length lent_table) returning ≡ Accepted = sym c.check-found.ensures ∙ c.in-Accepted.is in
-    let sizes_at : (c.survey_lent-lent.result.wires.buses ≤ 128) × (c.survey_lent-lent.result.wires.branches ≤ 256) × (returning < c.survey_lent-lent.result.wires.branches) = sizes c.survey_lent-lent.ensures (may _ bytes lent_flow lent_table returning ok).there in
+    let sizes_at : (c.in-Some.lent.wires.buses ≤ 128) × (c.in-Some.lent.wires.branches ≤ 256) × (returning < c.in-Some.lent.wires.branches) = sizes (c.survey_lent.ensures.fitting _ c.in-Some.is) (may _ bytes lent_flow lent_table returning ok).there in
     let below : returning < 256 = let s = sizes_at in omega (arith, s.1, s.2) in
     below
 
@@ -96,7 +94,7 @@ kw_with-requires c =
     let lent_flow : List ℤ = c.args.flow.now in
     let lent_table : List ℕ = c.args.table.now in
     let ok : back_check c.args.percent bytes (length lent_flow) (length lent_table) returning ≡ Accepted = sym c.check-found.ensures ∙ c.in-Accepted.is in
-    let sizes_at : (c.survey_lent-lent.result.wires.buses ≤ 128) × (c.survey_lent-lent.result.wires.branches ≤ 256) × (returning < c.survey_lent-lent.result.wires.branches) = sizes c.survey_lent-lent.ensures (may _ bytes lent_flow lent_table returning ok).there in
+    let sizes_at : (c.in-Some.lent.wires.buses ≤ 128) × (c.in-Some.lent.wires.branches ≤ 256) × (returning < c.in-Some.lent.wires.branches) = sizes (c.survey_lent.ensures.fitting _ c.in-Some.is) (may _ bytes lent_flow lent_table returning ok).there in
     let below : returning < 256 = let s = sizes_at in omega (arith, s.1, s.2) in
     below
 
@@ -107,7 +105,7 @@ kw_with-requires-2 c =
     let lent_flow : List ℤ = c.args.flow.now in
     let lent_table : List ℕ = c.args.table.now in
     let ok : back_check c.args.percent bytes (length lent_flow) (length lent_table) returning ≡ Accepted = sym c.check-found.ensures ∙ c.in-Accepted.is in
-    let sizes_at : (c.survey_lent-lent.result.wires.buses ≤ 128) × (c.survey_lent-lent.result.wires.branches ≤ 256) × (returning < c.survey_lent-lent.result.wires.branches) = sizes c.survey_lent-lent.ensures (may _ bytes lent_flow lent_table returning ok).there in
+    let sizes_at : (c.in-Some.lent.wires.buses ≤ 128) × (c.in-Some.lent.wires.branches ≤ 256) × (returning < c.in-Some.lent.wires.branches) = sizes (c.survey_lent.ensures.fitting _ c.in-Some.is) (may _ bytes lent_flow lent_table returning ok).there in
     let below : returning < 256 = let s = sizes_at in omega (arith, s.1, s.2) in
     below
 
@@ -118,8 +116,8 @@ anew-listed-requires c =
     let lent_flow : List ℤ = c.args.flow.now in
     let lent_table : List ℕ = c.args.table.now in
     let ok : back_check c.args.percent bytes (length lent_flow) (length lent_table) returning ≡ Accepted = sym c.check-found.ensures ∙ c.in-Accepted.is in
-    let sizes_at : (c.survey_lent-lent.result.wires.buses ≤ 128) × (c.survey_lent-lent.result.wires.branches ≤ 256) × (returning < c.survey_lent-lent.result.wires.branches) = sizes c.survey_lent-lent.ensures (may _ bytes lent_flow lent_table returning ok).there in
-    let table_room : 52 * c.survey_lent-lent.result.wires.branches ≤ length lent_table = omega (arith, (may _ bytes lent_flow lent_table returning ok).passes.table_room, c.survey_lent-lent.ensures.branches_are) in
+    let sizes_at : (c.in-Some.lent.wires.buses ≤ 128) × (c.in-Some.lent.wires.branches ≤ 256) × (returning < c.in-Some.lent.wires.branches) = sizes (c.survey_lent.ensures.fitting _ c.in-Some.is) (may _ bytes lent_flow lent_table returning ok).there in
+    let table_room : 52 * c.in-Some.lent.wires.branches ≤ length lent_table = omega (arith, (may _ bytes lent_flow lent_table returning ok).passes.table_room, (c.survey_lent.ensures.fitting _ c.in-Some.is).branches_are) in
     (sizes_at.1, table_room)
 
 pub rewrite-requires : goal.rewrite-requires
@@ -129,10 +127,9 @@ rewrite-requires c =
     let lent_flow : List ℤ = c.args.flow.now in
     let returning : ℕ = c.args.branch in
     let ok : back_check c.args.percent bytes (length lent_flow) (length lent_table) returning ≡ Accepted = sym c.check-found.ensures ∙ c.in-Accepted.is in
-    let table_room : 52 * c.survey_lent-lent.result.wires.branches ≤ length lent_table = omega (arith, (may _ bytes lent_flow lent_table returning ok).passes.table_room, c.survey_lent-lent.ensures.branches_are) in
-    let fitting : c.survey_lent-lent.result.fits ≡ true = not-false _ c.if-not-fits.false-raw in
+    let table_room : 52 * c.in-Some.lent.wires.branches ≤ length lent_table = omega (arith, (may _ bytes lent_flow lent_table returning ok).passes.table_room, (c.survey_lent.ensures.fitting _ c.in-Some.is).branches_are) in
     -- The rows with the branch in service, as a state of the changed case.
-    let poised : Poised c.survey_lent-lent.result.wires c.served_with-served.result c.kw_with-briefs.result (record { ahead = c.kw_with.result; back = c.kw_with-2.result }) = poised_here _ bytes lent_flow lent_table returning ok _ c.survey_lent-lent.ensures fitting _ c.raise-raised.ensures
+    let poised : Poised c.in-Some.lent.wires c.served_with-served.result c.kw_with-briefs.result (record { ahead = c.kw_with.result; back = c.kw_with-2.result }) = poised_here _ bytes lent_flow lent_table returning ok _ (c.survey_lent.ensures.fitting _ c.in-Some.is) _ c.raise-raised.ensures
     c.served_with-served.ensures c.kw_with-briefs.ensures c.kw_with.ensures c.kw_with-2.ensures in
     (poised, table_room)
 
@@ -143,7 +140,7 @@ set_status-requires c =
     let lent_flow : List ℤ = c.args.flow.now in
     let lent_table : List ℕ = c.args.table.now in
     let ok : back_check c.args.percent bytes (length lent_flow) (length lent_table) returning ≡ Accepted = sym c.check-found.ensures ∙ c.in-Accepted.is in
-    let sizes_at : (c.survey_lent-lent.result.wires.buses ≤ 128) × (c.survey_lent-lent.result.wires.branches ≤ 256) × (returning < c.survey_lent-lent.result.wires.branches) = sizes c.survey_lent-lent.ensures (may _ bytes lent_flow lent_table returning ok).there in
+    let sizes_at : (c.in-Some.lent.wires.buses ≤ 128) × (c.in-Some.lent.wires.branches ≤ 256) × (returning < c.in-Some.lent.wires.branches) = sizes (c.survey_lent.ensures.fitting _ c.in-Some.is) (may _ bytes lent_flow lent_table returning ok).there in
     let s = sizes_at in
     (omega (arith, s.1, s.2), omega arith)
 
@@ -154,7 +151,6 @@ returns c =
     let lent_table : List ℕ = c.args.table.now in
     let returning : ℕ = c.args.branch in
     let ok : back_check c.args.percent bytes (length lent_flow) (length lent_table) returning ≡ Accepted = sym c.check-found.ensures ∙ c.in-Accepted.is in
-    let fitting : c.survey_lent-lent.result.fits ≡ true = not-false _ c.if-not-fits.false-raw in
-    ends_back _ bytes lent_flow lent_table returning ok _ c.survey_lent-lent.ensures fitting _ c.raise-raised.ensures
+    ends_back _ bytes lent_flow lent_table returning ok _ (c.survey_lent.ensures.fitting _ c.in-Some.is) _ c.raise-raised.ensures
     c.served_with-served.ensures c.kw_with-briefs.ensures c.kw_with.ensures c.kw_with-2.ensures
     c.answer_with-2.ensures c.anew-listed.ensures c.set_status.ensures c.rewrite.ensures

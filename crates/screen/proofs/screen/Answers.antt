@@ -1,5 +1,4 @@
 -- The screen: its checks, the base flow of the rows of its book, and every record from that.
-use borrow.Author.Rules.{rules}
 use native.Mathlib.Omega.{arith}
 use mathlib.Core.Path.{◌≡◌, refl, sym, ◌∙◌}
 use mathlib.Core.List.{List}
@@ -68,8 +67,8 @@ base_flow-base-requires c =
     let loads : nth made.load ≡ (λ i. neg_part ((case_in rate bytes).injection i)) = load_is (book_of bytes) well _ c.rows_of.ensures made c.prepare-plan.ensures in
     basic (normal (case_in rate bytes)) refl _ _ _ _ _ hold gains loads
 
-pub returns-in-Short : goal.returns-in-Short
-returns-in-Short c =
+pub returns-in-Some : goal.returns-in-Some
+returns-in-Some c =
     let bytes : List ℕ = c.args.book.now in
     let rate : ℕ = c.args.percent in
     let lent_flow : List ℤ = c.args.flow.now in
@@ -80,7 +79,6 @@ returns-in-Short c =
     let full : rate ≤ 100 = full_at_most passes.in_range in
     let well : WellFormed (book_of bytes) = accepted_well bytes passes.book in
     let hold : Held (normal (case_in rate bytes)) made.wires made.served made.live = held_live (book_of bytes) well _ c.rows_of.ensures made c.prepare-plan.ensures full in
-    let group_long : length c.base_flow-base.result.group ≡ 16 = search rules in
     let gains : nth made.gain ≡ (λ i. pos_part ((case_in rate bytes).injection i)) = gain_is (book_of bytes) well _ c.rows_of.ensures made c.prepare-plan.ensures in
     let loads : nth made.load ≡ (λ i. neg_part ((case_in rate bytes).injection i)) = load_is (book_of bytes) well _ c.rows_of.ensures made c.prepare-plan.ensures in
     -- The base flow's word on the case.
@@ -88,7 +86,7 @@ returns-in-Short c =
     by_overload _ _ _ _ ok
     (overload_normal (case_in rate bytes) _
     (overload (normal (case_in rate bytes)) _ _ _ hold _ word _
-    c.in-Short.is group_long))
+    c.in-Some.is))
 
 pub fill_flow-requires : goal.fill_flow-requires
 fill_flow-requires c =
@@ -130,7 +128,7 @@ raise-raised-requires c =
     let word : Answered (normal (case_in rate bytes)) made.wires made.live c.base_flow-base.result = based_answer (normal (case_in rate bytes)) refl _ _ _ _ _ hold gains loads _ c.base_flow-base.ensures in
     -- The flow that is left, and the rows as its state.
     let left : State (normal (case_in rate bytes)) (on c.fill_flow.new.flow) made.wires made.served made.live c.base_flow-base.result.latent = state_left (normal (case_in rate bytes)) _ _ _ hold _ word _ _
-    c.in_default-verdict.is c.fill_flow.ensures in
+    c.in_default-short.is c.fill_flow.ensures in
     raisable (case_in rate bytes) _ _ _ _ _ _ left hold_loss
 
 pub rewrite-requires : goal.rewrite-requires
@@ -154,7 +152,7 @@ rewrite-requires c =
     let word : Answered (normal (case_in rate bytes)) made.wires made.live c.base_flow-base.result = based_answer (normal (case_in rate bytes)) refl _ _ _ _ _ hold gains loads _ c.base_flow-base.ensures in
     -- The flow that is left, and the rows as its state.
     let left : State (normal (case_in rate bytes)) (on c.fill_flow.new.flow) made.wires made.served made.live c.base_flow-base.result.latent = state_left (normal (case_in rate bytes)) _ _ _ hold _ word _ _
-    c.in_default-verdict.is c.fill_flow.ensures in
+    c.in_default-short.is c.fill_flow.ensures in
     let lifted : State (case_in rate bytes) (on c.fill_flow.new.flow) made.wires made.served made.brief c.raise-raised.result = raised_state (case_in rate bytes) _ _ _ _ _ _ left hold_loss c.raise-raised.ensures in
     (record { case = _; flow = _; state = lifted }, table_room)
 
@@ -179,7 +177,7 @@ returns c =
     let word : Answered (normal (case_in rate bytes)) made.wires made.live c.base_flow-base.result = based_answer (normal (case_in rate bytes)) refl _ _ _ _ _ hold gains loads _ c.base_flow-base.ensures in
     -- The flow that is left, and the rows as its state.
     let left : State (normal (case_in rate bytes)) (on c.fill_flow.new.flow) made.wires made.served made.live c.base_flow-base.result.latent = state_left (normal (case_in rate bytes)) _ _ _ hold _ word _ _
-    c.in_default-verdict.is c.fill_flow.ensures in
+    c.in_default-short.is c.fill_flow.ensures in
     let lifted : State (case_in rate bytes) (on c.fill_flow.new.flow) made.wires made.served made.brief c.raise-raised.result = raised_state (case_in rate bytes) _ _ _ _ _ _ left hold_loss c.raise-raised.ensures in
     let s = lifted in
     by_table _ _ _ _ ok _ c.answer_with-2.ensures hold.branches_are flow_room c.fill_flow.ensures s.fits

@@ -1,16 +1,13 @@
 -- The move of load: its checks, the test of the lent flow, the reroute between the two buses, and what is then written.
-use borrow.Author.Rules.{rules}
 use native.Mathlib.Omega.{arith}
 use mathlib.Core.Path.{◌≡◌, refl, sym, ap, ◌∙◌}
-use mathlib.Core.Bool.{true}
 use mathlib.Core.List.{List}
 use Prim.Native.Nat.{ℕ, ◌*◌, ◌≤◌}
-use borrow.Author.Tests.{not-false}
 use lib.IntN.{ℤ}
 use lib.ListN.{length}
 use Rattle.answer.specs.Answer.{Accepted}
 use Rattle.bits.specs.Field.{Bytes}
-use Rattle.reroute.specs.declared.Verdict.TheVariants.{Carries}
+use Rattle.std.specs.Prelude.{None}
 use Rattle.state.specs.Inside.{Poised}
 use Rattle.state.proofs.Surveying.{surveyable}
 use Rattle.transfer.specs.Promise.{transfer_check}
@@ -22,8 +19,8 @@ use Rattle.transfer.proofs.move_load.Goals as goal
 pub returns-in_default : goal.returns-in_default
 returns-in_default c = ends_refused _ _ _ _ _ _ _ _ c.check-found.ensures c.in_default.not-Accepted c.answer_with.ensures
 
-pub survey_lent-lent-requires : goal.survey_lent-lent-requires
-survey_lent-lent-requires c =
+pub survey_lent-requires : goal.survey_lent-requires
+survey_lent-requires c =
     let bytes : List ℕ = c.args.book.now in
     let lent_flow : List ℤ = c.args.flow.now in
     let lent_table : List ℕ = c.args.table.now in
@@ -34,8 +31,8 @@ survey_lent-lent-requires c =
     let may_at : Movable c.args.percent bytes (length lent_flow) (length lent_table) rising falling moving = may _ bytes lent_flow lent_table rising falling moving ok in
     surveyable may_at.passes
 
-pub returns-then-not-fits : goal.returns-then-not-fits
-returns-then-not-fits c =
+pub returns-in_default-survey_lent : goal.returns-in_default-survey_lent
+returns-in_default-survey_lent c =
     let bytes : List ℕ = c.args.book.now in
     let lent_flow : List ℤ = c.args.flow.now in
     let lent_table : List ℕ = c.args.table.now in
@@ -43,8 +40,8 @@ returns-then-not-fits c =
     let falling : ℕ = c.args.down in
     let moving : ℕ = c.args.kw in
     let ok : transfer_check c.args.percent bytes (length lent_flow) (length lent_table) rising falling moving ≡ Accepted = sym c.check-found.ensures ∙ c.in-Accepted.is in
-    ends_unfit _ bytes lent_flow lent_table rising falling moving ok _ c.survey_lent-lent.ensures
-    (c.if-not-fits.true) (c.answer_with-then-not-fits.ensures ∙ c.refuse.ensures)
+    ends_unfit _ bytes lent_flow lent_table rising falling moving ok c.survey_lent.ensures c.in_default-survey_lent.is
+    (c.answer_with-in_default-survey_lent.ensures ∙ c.refuse.ensures)
 
 pub deliver-judged-requires : goal.deliver-judged-requires
 deliver-judged-requires c =
@@ -55,11 +52,10 @@ deliver-judged-requires c =
     let falling : ℕ = c.args.down in
     let moving : ℕ = c.args.kw in
     let ok : transfer_check c.args.percent bytes (length lent_flow) (length lent_table) rising falling moving ≡ Accepted = sym c.check-found.ensures ∙ c.in-Accepted.is in
-    deliverable_here _ bytes lent_flow lent_table rising falling moving ok _ c.survey_lent-lent.ensures
-    (c.if-not-fits.false)
+    deliverable_here _ bytes lent_flow lent_table rising falling moving ok _ (c.survey_lent.ensures.fitting _ c.in-Some.is)
 
-pub returns-in-Short : goal.returns-in-Short
-returns-in-Short c =
+pub returns-in-Some-short : goal.returns-in-Some-short
+returns-in-Some-short c =
     let bytes : List ℕ = c.args.book.now in
     let lent_flow : List ℤ = c.args.flow.now in
     let lent_table : List ℕ = c.args.table.now in
@@ -67,19 +63,17 @@ returns-in-Short c =
     let falling : ℕ = c.args.down in
     let moving : ℕ = c.args.kw in
     let ok : transfer_check c.args.percent bytes (length lent_flow) (length lent_table) rising falling moving ≡ Accepted = sym c.check-found.ensures ∙ c.in-Accepted.is in
-    let group_long : length c.deliver-judged.result.group ≡ 16 = search rules in
-    let fitting : c.survey_lent-lent.result.fits ≡ true = not-false _ c.if-not-fits.false-raw in
-    ends_short _ bytes lent_flow lent_table rising falling moving ok _ c.survey_lent-lent.ensures fitting _
-    c.deliver-judged.ensures _ c.in-Short.is group_long refl
+    ends_short _ bytes lent_flow lent_table rising falling moving ok _ (c.survey_lent.ensures.fitting _ c.in-Some.is) _
+    c.deliver-judged.ensures _ c.in-Some-short.is refl
 
 pub changed-touched-requires : goal.changed-touched-requires
 changed-touched-requires c =
-    let few : c.survey_lent-lent.result.wires.branches ≤ 256 = c.survey_lent-lent.ensures.held.linked.wired.size in
+    let few : c.in-Some.lent.wires.branches ≤ 256 = (c.survey_lent.ensures.fitting _ c.in-Some.is).held.linked.wired.size in
     few
 
 pub shortlist-listed-requires : goal.shortlist-listed-requires
 shortlist-listed-requires c =
-    let few : c.survey_lent-lent.result.wires.branches ≤ 256 = c.survey_lent-lent.ensures.held.linked.wired.size in
+    let few : c.in-Some.lent.wires.branches ≤ 256 = (c.survey_lent.ensures.fitting _ c.in-Some.is).held.linked.wired.size in
     let lent_table : List ℕ = c.args.table.now in
     let bytes : List ℕ = c.args.book.now in
     let lent_flow : List ℤ = c.args.flow.now in
@@ -88,7 +82,7 @@ shortlist-listed-requires c =
     let moving : ℕ = c.args.kw in
     let ok : transfer_check c.args.percent bytes (length lent_flow) (length lent_table) rising falling moving ≡ Accepted = sym c.check-found.ensures ∙ c.in-Accepted.is in
     let may_at : Movable c.args.percent bytes (length lent_flow) (length lent_table) rising falling moving = may _ bytes lent_flow lent_table rising falling moving ok in
-    let table_room : 52 * c.survey_lent-lent.result.wires.branches ≤ length lent_table = omega (arith, may_at.passes.table_room, c.survey_lent-lent.ensures.branches_are) in
+    let table_room : 52 * c.in-Some.lent.wires.branches ≤ length lent_table = omega (arith, may_at.passes.table_room, (c.survey_lent.ensures.fitting _ c.in-Some.is).branches_are) in
     (few, table_room)
 
 pub fill_flow-requires : goal.fill_flow-requires
@@ -100,8 +94,7 @@ fill_flow-requires c =
     let falling : ℕ = c.args.down in
     let moving : ℕ = c.args.kw in
     let ok : transfer_check c.args.percent bytes (length lent_flow) (length lent_table) rising falling moving ≡ Accepted = sym c.check-found.ensures ∙ c.in-Accepted.is in
-    let fitting : c.survey_lent-lent.result.fits ≡ true = not-false _ c.if-not-fits.false-raw in
-    fillable_here _ bytes lent_flow lent_table rising falling moving ok _ c.survey_lent-lent.ensures fitting _
+    fillable_here _ bytes lent_flow lent_table rising falling moving ok _ (c.survey_lent.ensures.fitting _ c.in-Some.is) _
     c.deliver-judged.ensures
 
 pub raise-raised-requires : goal.raise-raised-requires
@@ -113,9 +106,8 @@ raise-raised-requires c =
     let falling : ℕ = c.args.down in
     let moving : ℕ = c.args.kw in
     let ok : transfer_check c.args.percent bytes (length lent_flow) (length lent_table) rising falling moving ≡ Accepted = sym c.check-found.ensures ∙ c.in-Accepted.is in
-    let fitting : c.survey_lent-lent.result.fits ≡ true = not-false _ c.if-not-fits.false-raw in
-    let carried : c.deliver-judged.result.verdict ≡ Carries = c.in_default-verdict.is in
-    raisable_here _ bytes lent_flow lent_table rising falling moving ok _ c.survey_lent-lent.ensures fitting _
+    let carried : c.deliver-judged.result.short ≡ None = c.in_default-short.is in
+    raisable_here _ bytes lent_flow lent_table rising falling moving ok _ (c.survey_lent.ensures.fitting _ c.in-Some.is) _
     c.deliver-judged.ensures carried _ c.fill_flow.ensures
 
 pub rewrite-requires : goal.rewrite-requires
@@ -128,11 +120,10 @@ rewrite-requires c =
     let moving : ℕ = c.args.kw in
     let ok : transfer_check c.args.percent bytes (length lent_flow) (length lent_table) rising falling moving ≡ Accepted = sym c.check-found.ensures ∙ c.in-Accepted.is in
     let may_at : Movable c.args.percent bytes (length lent_flow) (length lent_table) rising falling moving = may _ bytes lent_flow lent_table rising falling moving ok in
-    let table_room : 52 * c.survey_lent-lent.result.wires.branches ≤ length lent_table = omega (arith, may_at.passes.table_room, c.survey_lent-lent.ensures.branches_are) in
-    let fitting : c.survey_lent-lent.result.fits ≡ true = not-false _ c.if-not-fits.false-raw in
-    let carried : c.deliver-judged.result.verdict ≡ Carries = c.in_default-verdict.is in
+    let table_room : 52 * c.in-Some.lent.wires.branches ≤ length lent_table = omega (arith, may_at.passes.table_room, (c.survey_lent.ensures.fitting _ c.in-Some.is).branches_are) in
+    let carried : c.deliver-judged.result.short ≡ None = c.in_default-short.is in
     -- The rows that are left, as a state of the changed case.
-    let poised : Poised c.survey_lent-lent.result.wires c.survey_lent-lent.result.served c.survey_lent-lent.result.brief c.raise-raised.result = poised_here _ bytes lent_flow lent_table rising falling moving ok _ c.survey_lent-lent.ensures fitting _
+    let poised : Poised c.in-Some.lent.wires c.in-Some.lent.served c.in-Some.lent.brief c.raise-raised.result = poised_here _ bytes lent_flow lent_table rising falling moving ok _ (c.survey_lent.ensures.fitting _ c.in-Some.is) _
     c.deliver-judged.ensures carried _ c.fill_flow.ensures c.raise-raised.ensures in
     (poised, table_room)
 
@@ -157,9 +148,8 @@ returns c =
     let falling : ℕ = c.args.down in
     let moving : ℕ = c.args.kw in
     let ok : transfer_check c.args.percent bytes (length lent_flow) (length lent_table) rising falling moving ≡ Accepted = sym c.check-found.ensures ∙ c.in-Accepted.is in
-    let fitting : c.survey_lent-lent.result.fits ≡ true = not-false _ c.if-not-fits.false-raw in
-    let carried : c.deliver-judged.result.verdict ≡ Carries = c.in_default-verdict.is in
+    let carried : c.deliver-judged.result.short ≡ None = c.in_default-short.is in
     let book_bytes : Bytes bytes = λ k. (c.slice_known-1.given k).fits in
-    ends_moved _ bytes lent_flow lent_table rising falling moving ok _ c.survey_lent-lent.ensures fitting _
+    ends_moved _ bytes lent_flow lent_table rising falling moving ok _ (c.survey_lent.ensures.fitting _ c.in-Some.is) _
     c.deliver-judged.ensures carried _ c.fill_flow.ensures _ c.changed-touched.ensures c.raise-raised.ensures c.answer_with-2.ensures book_bytes
     c.shortlist-listed.ensures c.put_injections.ensures c.rewrite.ensures
