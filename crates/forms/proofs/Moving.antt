@@ -76,7 +76,7 @@ module _ (bs : List ℕ) (f : Form) (room : ℕ) where
   moves e =
       let p = past_both (check_of bs) _ e in
       let q = past (would_lose f (ratings_differ (book_of bs))) _ _ p.1 in
-      let r = past (ltb room (bytes_for f (buses_in bs) (branches_in bs))) 8 Accepted q.1 in
+      let r = past (ltb room (bytes_for f (buses_in bs) (branches_in bs))) _ Accepted q.1 in
       record { book = p.0; holds = q.0; fits = ltb-false room _ r.0 }
 
   pub moving : Moves bs f room → move_check bs f room ≡ Accepted

@@ -11,7 +11,7 @@ use lib.Dec.{eqb, ltb, leb}
 use lib.IntN.{ℤ, pos, negsuc, nat_abs}
 use Rattle.rows.specs.Row.{some, up_to}
 use Rattle.rows.specs.Sum.{all, pick, over, sum}
-use Rattle.answer.specs.declared.Refusal.TheVariants.{AdvanceTooFar, SupplyOutside}
+use Rattle.answer.specs.declared.Refusal.TheVariants.{NoSuchSupply, AdvanceTooFar, SupplyOutside}
 use Rattle.answer.specs.Answer.{Answer, Accepted, refuse_if, refused}
 use Rattle.rows.proofs.Row.{no_some}
 use Rattle.answer.proofs.Said.{said_same}
@@ -92,11 +92,11 @@ pub passed : (R : Registers) (room : ℕ) → answer_to R room ≡ Accepted → 
 unfolding answer_to
 passed R room e =
     let range = refuse_if (ltb 1000000 (nat_abs (supplied R))) SupplyOutside Accepted in
-    let far = refuse_if (some (buses R) (too_far R)) 15 range in
-    let a = past_both (shape R room) (refuse_if (leb (buses R) R.supply) 14 far) e in
-    let b = past (leb (buses R) R.supply) 14 far a.1 in
-    let c = past (some (buses R) (too_far R)) 15 range b.1 in
-    let d = past (ltb 1000000 (nat_abs (supplied R))) 16 Accepted c.1 in
+    let far = refuse_if (some (buses R) (too_far R)) AdvanceTooFar range in
+    let a = past_both (shape R room) (refuse_if (leb (buses R) R.supply) NoSuchSupply far) e in
+    let b = past (leb (buses R) R.supply) _ far a.1 in
+    let c = past (some (buses R) (too_far R)) _ range b.1 in
+    let d = past (ltb 1000000 (nat_abs (supplied R))) _ Accepted c.1 in
     record { supply_in = leb-false (buses R) R.supply b.0; near = c.0; within = ltb-false 1000000 (nat_abs (supplied R)) d.0 }
 
 -- Every injection of an accepted call lies within -1,000,000 and 1,000,000.

@@ -4,7 +4,7 @@ use mathlib.Core.Bool.{true}
 use mathlib.Core.List.{List}
 use Prim.Native.Nat.{ℕ, ◌<◌}
 use Rattle.rows.specs.Row.{member}
-use Rattle.answer.specs.declared.Outcome.TheVariants.{Accepted}
+use Rattle.answer.specs.Answer.{Accepted}
 use Rattle.answer.proofs.Numbers.{Gives, inside, gives_more}
 use Rattle.layout.specs.Layout.{branches_in}
 use Rattle.state.specs.Case.{case_in}

@@ -12,10 +12,8 @@ use Rattle.std.specs.Prelude.{Option, None, Some}
 use Rattle.rows.specs.Row.{nth, member, headed}
 use Rattle.rows.proofs.Row.{headed_rest, length_headed}
 use Rattle.rows.specs.Bit.{has}
-use Rattle.answer.specs.Answer.{number_of, bare, accepted, refused, overloaded}
-use Rattle.answer.specs.declared.Answer.{Answer}
-use Rattle.answer.specs.declared.Outcome.{Outcome}
-use Rattle.answer.specs.declared.Outcome.TheVariants.{Accepted}
+use Rattle.answer.specs.declared.Refusal.TheVariants.{FlowUnfit}
+use Rattle.answer.specs.Answer.{Answer, Accepted, number_of, overloaded, refused}
 use Rattle.answer.proofs.Refusals.{refusal_stands}
 use Rattle.answer.proofs.Said.{said_accepted, said_refused}
 use Rattle.answer.proofs.Numbers.{gives_said}
@@ -49,20 +47,20 @@ use Rattle.outage.proofs.FlowLeft as leaving
 use Rattle.outage.proofs.Touching.{judges}
 
 module _ (percent : ℕ) (bs : List ℕ) (flow : List ℤ) (table : List ℕ) (b : ℕ) where
-  abbrev checks : Outcome
+  abbrev checks : Answer
   checks = take_check percent bs (length flow) (length table) b
 
   abbrev C : Case
   C = case_in percent bs
 
   -- Refused by its checks.
-  pub ends_refused : {r : Taken} (o : Outcome) → o ≡ checks → (o ≡ Accepted → ⊥) → (r.answer ≡ o) × (r.judged ≡ 0)
+  pub ends_refused : {r : Taken} (o : Answer) → o ≡ checks → (o ≡ Accepted → ⊥) → (r.answer ≡ o) × (r.judged ≡ 0)
       → TakeCounted percent b (lent bs flow table) (lent bs flow table) r
   unfolding member
   ends_refused o e n a = record {
     ends = refuses (λ q. n (e ∙ q))
         (gives_said take_numbers checks refl (take_gives percent bs (length flow) (length table) b) (a.0 ∙ e)) refl;
-    judges = λ q. absurd (n (ap (λ (x : Answer). x.outcome) (sym a.0 ∙ q)));
+    judges = λ q. absurd (n (ap (λ (x : Answer). x) (sym a.0 ∙ q)));
     none = λ _. a.1;
   }
 
@@ -70,11 +68,11 @@ module _ (percent : ℕ) (bs : List ℕ) (flow : List ℤ) (table : List ℕ) (b
     pub may : Takeable percent bs (length flow) (length table) b
     may = takeable bs (length flow) (length table) b ok
 
-    pub ends_unfit : {o : Option Survey} {t : Taken} → Surveys percent bs flow o → o ≡ None → t.answer ≡ refused 11 → t.judged ≡ 0
+    pub ends_unfit : {o : Option Survey} {t : Taken} → Surveys percent bs flow o → o ≡ None → t.answer ≡ refused FlowUnfit → t.judged ≡ 0
         → TakeCounted percent b (lent bs flow table) (lent bs flow table) t
     ends_unfit p e a z = record {
-      ends = unfit ok (p.unfit e) (rw a (said_refused 11 (λ z. omega arith) (λ z. omega arith))) refl;
-      judges = λ q. absurd (refusal_stands 11 (ap (λ (x : Answer). x.outcome) (sym a ∙ q)));
+      ends = unfit ok (p.unfit e) (rw a (said_refused FlowUnfit (λ z. omega arith) (λ z. omega arith))) refl;
+      judges = λ q. absurd (refusal_stands FlowUnfit (ap (λ (x : Answer). x) (sym a ∙ q)));
       none = λ _. z;
     }
 
@@ -99,7 +97,7 @@ module _ (percent : ℕ) (bs : List ℕ) (flow : List ℤ) (table : List ℕ) (b
               (rw a.0
               (overload_normal (out C b) _
               (leaving.overload_out (normal C) refl flow q.wires q.served q.live q.latent state b there named y z x v))) refl;
-          judges = λ q. absurd (omega (arith, ap (λ (x : Answer). number_of x.outcome) (sym a.0 ∙ q)));
+          judges = λ q. absurd (omega (arith, ap (λ (x : Answer). number_of x) (sym a.0 ∙ q)));
           none = λ _. a.1;
         }
 
@@ -170,7 +168,7 @@ module _ (percent : ℕ) (bs : List ℕ) (flow : List ℤ) (table : List ℕ) (b
 
               pub ends_taken :
                   {bs' table' bits : List ℕ} {losses : ℕ} {t : Taken} {left : Latent} → Raised q.wires.branches live brief y.latent left
-                  → t.answer ≡ accepted → t.judged ≡ losses
+                  → t.answer ≡ Accepted → t.judged ≡ losses
                   → named ≡ take 32 (drop 20 (record_at table b))
                   → Listing q.wires.branches (listed_at served touched table) bits → bs' ≡ set_bit bs (status_bit bs b) 0
                   → ((D : Case) (f : ℕ → ℤ) → State D f q.wires served brief left → Rewritten D f served bits table table' losses)
