@@ -15,7 +15,7 @@ ghost use Rattle.state.specs.Inside.{State, Poised, Changed, Live, Plannable, Pl
 ghost use Rattle.search.specs.declared.Latent.{Latent};
 ghost use Rattle.state.specs.Inside.{Fillable, Severable, Rewritten};
 
-use answer::Outcome;
+use answer::{Answer, Refusal};
 use book::CaseRows;
 use quantity::Kw;
 use search::{Latent, Wires};
@@ -32,24 +32,18 @@ pub struct Plan {
 }
 
 // Refusal 21, then 1 to 8, for so many lent flow numbers and table bytes.
-pub fn check_lent(percent: u32, book: &[u8], flows: usize, bytes: usize) -> Outcome
+pub fn check_lent(percent: u32, book: &[u8], flows: usize, bytes: usize) -> Answer
     ensures { result ≡ lent_check percent book.now flows bytes }
 {
     if quantity::percent_out(percent) {
-        return answer::refuse(21);
+        return Err(Refusal::PercentOutside);
     }
     let h = layout::head_of(book);
-    let found = book::check_with(book, h);
-    let Outcome::Accepted = found else {
-        return found;
-    };
-    if flows < h.branches {
-        return answer::refuse(8);
+    book::check_with(book, h)?;
+    if flows < h.branches || bytes < 52 * h.branches {
+        return Err(Refusal::TooShort);
     }
-    if bytes < 52 * h.branches {
-        return answer::refuse(8);
-    }
-    Outcome::Accepted
+    Ok(())
 }
 
 // The row of capacities: here the limits leave their kW.
@@ -58,12 +52,10 @@ fn live_limits(branches: usize, served: [bool; 256], limit: [Kw; 256]) -> [u32; 
     ensures { Live branches served limit result }
 {
     let mut live = [0u32; 256];
-    let mut k: usize = 0;
-    while k < branches {
+    for k in 0..branches {
         if served[k] {
             live[k] = limit[k].0;
         }
-        k += 1;
     }
     live
 }
@@ -72,21 +64,22 @@ pub fn prepare(rows: CaseRows) -> Plan
     requires { Plannable rows }
     ensures { Planned rows result }
 {
-    let first = rows.first;
-    let second = rows.second;
-    let served = rows.served;
-    let limit = rows.limit;
-    let loss = rows.loss;
-    let gain = rows.gain;
-    let load = rows.load;
-    let wires = search::link(rows.buses, rows.branches, first, second);
-    let live = live_limits(rows.branches, served, limit);
-    let brief = live_limits(rows.branches, served, loss);
-    Plan {
-        wires,
+    let CaseRows {
+        buses,
+        branches,
+        first,
+        second,
         served,
-        live,
-        brief,
+        limit,
+        loss,
+        gain,
+        load,
+    } = rows;
+    Plan {
+        wires: search::link(buses, branches, first, second),
+        served,
+        live: live_limits(branches, served, limit),
+        brief: live_limits(branches, served, loss),
         gain,
         load,
     }
@@ -109,13 +102,14 @@ pub fn survey_lent(percent: u32, book: &[u8], flow: &[i32]) -> Option<Survey>
 {
     let rows = book::rows_of(percent, book);
     let loss = rows.loss;
-    let plan = prepare(rows);
-    let wires = plan.wires;
-    let served = plan.served;
-    let live = plan.live;
-    let brief = plan.brief;
-    let gain = plan.gain;
-    let load = plan.load;
+    let Plan {
+        wires,
+        served,
+        live,
+        brief,
+        gain,
+        load,
+    } = prepare(rows);
     let latent = fit::test(flow, wires, live, gain, load)?;
     Some(Survey {
         wires,
@@ -132,10 +126,8 @@ fn raised_row(branches: usize, live: [u32; 256], brief: [u32; 256], row: [u32; 2
     ensures { RowRaised branches live brief row result }
 {
     let mut raised = row;
-    let mut k: usize = 0;
-    while k < branches {
+    for k in 0..branches {
         raised[k] = row[k] + (brief[k] - live[k]);
-        k += 1;
     }
     raised
 }
@@ -157,10 +149,8 @@ pub fn fill_flow(flow: &mut [i32], branches: usize, live: [u32; 256], ahead: [u3
     requires { Fillable branches live ahead (length flow.old) }
     ensures { flow.new ≡ headed branches (λ k. pos (nth live k) -ℤ pos (nth ahead k)) flow.old }
 {
-    let mut k: usize = 0;
-    while k < branches {
+    for k in 0..branches {
         flow[k] = quantity::difference(live[k], ahead[k]);
-        k += 1;
     }
 }
 
@@ -264,15 +254,13 @@ pub fn rewrite(
     ensures { (C : Case) (f : ℕ → ℤ) → State C f wires served live latent → Rewritten C f served listed table.old table.new result }
 {
     let mut judged: usize = 0;
-    let mut k: usize = 0;
-    while k < wires.branches {
+    for k in 0..wires.branches {
         if bits::is_set(&listed, k) {
             let a = 52 * k;
             let e = a + 52;
             put_verdict(&mut table[a..e], wires, served, live, latent, k);
             judged = counted(judged, served[k]);
         }
-        k += 1;
     }
     judged
 }

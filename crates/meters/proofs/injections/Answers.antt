@@ -1,15 +1,14 @@
 -- `injections` keeps its promise: refusals 13 to 16 in order, then the injections, each end by one law.
 use borrow.Author.Rules.{rules}
 use native.Mathlib.Omega.{arith}
-use mathlib.Core.Path.{◌≡◌, sym, ◌∙◌}
+use mathlib.Core.Path.{sym, ◌∙◌}
 use Prim.Native.Nat.{◌≤◌}
 use lib.ListN.{length}
 use mir.Syntax.{w32}
 use mir.Val.{SFits}
 use mir.Facts.{to_z-of_z}
-use Rattle.answer.specs.Answer.{Accepted}
 use Rattle.answer.proofs.Refusals.{gave_up, handed_on}
-use Rattle.meters.specs.Registers.{Registers, registers, buses, shape}
+use Rattle.meters.specs.Registers.{Registers, registers, buses}
 use Rattle.meters.specs.Inside.{Even}
 use Rattle.meters.proofs.MeterAnswers.{shaped, summed, by_shape, by_supply, by_advance, by_range, by_injections}
 use Rattle.meters.proofs.injections.Goals as goal
