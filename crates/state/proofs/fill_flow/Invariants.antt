@@ -1,6 +1,6 @@
 -- `fill_flow` writes the limit less what is latent ahead for each branch, and nothing beyond the branches.
 use mathlib.Core.Path.{◌≡◌}
-use Prim.Native.Nat.{◌-◌, ◌≤◌}
+use Prim.Native.Nat.{◌≤◌}
 use lib.ListN.{length}
 use lib.IntN.{pos, ◌-ℤ◌}
 use Rattle.rows.specs.Row.{nth, headed}
