@@ -3,7 +3,7 @@ use mathlib.Core.Path.{◌≡◌, refl, sym, ap, ◌∙◌}
 use mathlib.Core.Bool.{Bool, true, false, false≢true}
 use mathlib.Core.List.{List}
 use Prim.Native.Nat.{ℕ}
-use Rattle.std.specs.Prelude.{IsErr, IsErrAnd, Option, Some, None, Ok, Err}
+use Rattle.std.specs.Prelude.{IsErr, IsErrAnd, Option, Some, None, Result, Ok, Err, ok_or}
 use Rattle.answer.specs.declared.Place.{Place}
 use Rattle.answer.specs.declared.Refusal.{Refusal}
 use Rattle.answer.specs.Answer.{Answer, Accepted, Nowhere, At, place_of, refused, refuse_if, refuse_at, and_then, settled}
@@ -58,12 +58,19 @@ refusal_stands why e = cc
 pub went_on : {o : Answer} {x : Unit} → o ≡ Ok x → o ≡ Accepted
 went_on {x = tt} e = e
 
-pub handed_on : {o r : Answer} {why : Refusal} → o ≡ Err why → IsErr r × IsErrAnd r (λ e. e ≡ why) → r ≡ o
-handed_on {o = o} {r = r} {why = why} e h = go r h ∙ sym e
+pub handed : {A : Type 0} {r : Result A Refusal} {why : Refusal} → IsErr r × IsErrAnd r (λ e. e ≡ why) → r ≡ Err why
+handed {A = A} {r = r} {why = why} h = go r h
   where
-    go : (s : Answer) → IsErr s × IsErrAnd s (λ x. x ≡ why) → s ≡ Err why
+    go : (s : Result A Refusal) → IsErr s × IsErrAnd s (λ x. x ≡ why) → s ≡ Err why
     go (Ok _) h = absurd (false≢true h.0)
     go (Err who) h = ap Err h.1
+
+pub handed_on : {o r : Answer} {why : Refusal} → o ≡ Err why → IsErr r × IsErrAnd r (λ e. e ≡ why) → r ≡ o
+handed_on e h = handed h ∙ sym e
+
+-- What is refused for want of a value is refused for the reason that was named.
+pub wanted : {A : Type 0} {o : Option A} {r : Result A Refusal} {why who : Refusal} → o ≡ None → r ≡ ok_or o why → r ≡ Err who → who ≡ why
+wanted {A = A} {why = why} {who = who} n e h = let same : ◌≡◌ {A = Result A Refusal} (Err who) (Err why) = sym h ∙ e ∙ rw n refl in cc
 
 pub gave_up : {o : Answer} {why : Refusal} → o ≡ Err why → o ≡ Accepted → ⊥
 gave_up e a = cc

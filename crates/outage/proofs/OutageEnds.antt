@@ -3,7 +3,7 @@ use mathlib.Core.Path.{◌≡◌, refl, sym, ap, ◌∙◌}
 use mathlib.Core.Bool.{Bool, true, false}
 use mathlib.Core.List.{List}
 use mathlib.Core.Logic.{inl, inr}
-use Prim.Native.Nat.{ℕ, ◌≤◌, ◌<◌}
+use Prim.Native.Nat.{ℕ, ◌+◌, ◌*◌, ◌≤◌, ◌<◌}
 use native.Mathlib.Omega.{arith}
 use native.Mathlib.Decide.{ℕ_discrete}
 use lib.IntN.{ℤ, pos, ◌-ℤ◌}
@@ -60,7 +60,7 @@ module _ (percent : ℕ) (bs : List ℕ) (flow : List ℤ) (table : List ℕ) (b
   ends_refused o e n a = record {
     ends = refuses (λ q. n (e ∙ q))
         (gives_said take_numbers checks refl (take_gives percent bs (length flow) (length table) b) (a.0 ∙ e)) refl;
-    judges = λ q. absurd (n (ap (λ (x : Answer). x) (sym a.0 ∙ q)));
+    judges = λ q. absurd (n (sym a.0 ∙ q));
     none = λ _. a.1;
   }
 
@@ -71,14 +71,27 @@ module _ (percent : ℕ) (bs : List ℕ) (flow : List ℤ) (table : List ℕ) (b
     pub ends_unfit : {o : Option Survey} {t : Taken} → Surveys percent bs flow o → o ≡ None → t.answer ≡ refused FlowUnfit → t.judged ≡ 0
         → TakeCounted percent b (lent bs flow table) (lent bs flow table) t
     ends_unfit p e a z = record {
-      ends = unfit ok (p.unfit e) (rw a (said_refused FlowUnfit (λ z. omega arith) (λ z. omega arith))) refl;
-      judges = λ q. absurd (refusal_stands FlowUnfit (ap (λ (x : Answer). x) (sym a ∙ q)));
+      ends = unfit ok (p.unfit e) (rw a (said_refused FlowUnfit (λ z. omega arith))) refl;
+      judges = λ q. absurd (refusal_stands FlowUnfit (sym a ∙ q));
       none = λ _. z;
     }
 
     module _ (q : Survey) (p : Surveyed percent bs flow q) where
       there : b < C.branches
       there = branch_there p may.there
+
+      -- The sizes that the calls on the way ask for.
+      pub touched_here : (q.wires.branches ≤ 256) × (b < q.wires.branches)
+      touched_here = let s = sizes p may.there in (s.1, s.2)
+
+      pub below_here : b < 256
+      below_here = let s = sizes p may.there in omega (arith, s.1, s.2)
+
+      pub table_room : 52 * q.wires.branches ≤ length table
+      table_room = omega (arith, may.passes.table_room, p.branches_are)
+
+      pub stretch_here : 52 * b + 52 ≤ length table
+      stretch_here = omega (arith, table_room, touched_here.1)
 
       state : State (normal C) (on flow) q.wires q.served q.live q.latent
       state = p.state
@@ -97,7 +110,7 @@ module _ (percent : ℕ) (bs : List ℕ) (flow : List ℤ) (table : List ℕ) (b
               (rw a.0
               (overload_normal (out C b) _
               (leaving.overload_out (normal C) refl flow q.wires q.served q.live q.latent state b there named y z x v))) refl;
-          judges = λ q. absurd (omega (arith, ap (λ (x : Answer). number_of x) (sym a.0 ∙ q)));
+          judges = λ q. absurd (omega (arith, ap number_of (sym a.0 ∙ q)));
           none = λ _. a.1;
         }
 

@@ -1,4 +1,5 @@
 -- What `take_out` promises.
+use Rattle.answer.specs.declared.Refusal.TheVariants.{AlreadyOut}
 use Rattle.std.specs.Prelude.{◌≡◌, Bool, true, false, List, ◌∷◌, ℕ, ◌<◌, ℤ, pos, length}
 use Rattle.rows.specs.Sum.{size}
 use Rattle.answer.specs.Answer.{Answer, Accepted}
@@ -24,7 +25,7 @@ Confined C f rec b g = (j : ℕ) → j < C.branches → (j ≡ b → ⊥) → na
 
 -- Refusals 21 and 1 to 8, then 9, then 10: already out.
 abbrev pub take_check : ℕ → List ℕ → ℕ → ℕ → ℕ → Answer
-take_check percent bs flows bytes b = branch_check percent bs flows bytes b 0 10
+take_check percent bs flows bytes b = branch_check percent bs flows bytes b 0 AlreadyOut
 
 abbrev pub take_numbers : List ℕ
 take_numbers = 10 ∷ branch_numbers

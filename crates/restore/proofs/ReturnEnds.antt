@@ -1,8 +1,8 @@
 -- Each way in which a return ends meets its promise.
-use mathlib.Core.Path.{◌≡◌, refl, ap, ◌∙◌}
+use mathlib.Core.Path.{◌≡◌, refl, ◌∙◌}
 use mathlib.Core.Bool.{Bool, true}
 use mathlib.Core.List.{List}
-use Prim.Native.Nat.{ℕ, ◌<◌}
+use Prim.Native.Nat.{ℕ, ◌*◌, ◌≤◌, ◌<◌}
 use native.Mathlib.Omega.{arith}
 use lib.IntN.{ℤ}
 use lib.ListN.{length}
@@ -23,7 +23,7 @@ use Rattle.state.specs.Inside.{State, Surveyed, Surveys, Raisable, Raised, Poise
 use Rattle.state.specs.declared.Survey.{Survey}
 use Rattle.state.proofs.Raising.{raisable, raised_state}
 use Rattle.state.proofs.Rewriting.{renewed}
-use Rattle.state.proofs.Surveying.{branch_there}
+use Rattle.state.proofs.Surveying.{branch_there, sizes}
 use Rattle.state.proofs.Status.{restates}
 use Rattle.switch.specs.Inside.{With}
 use Rattle.restore.specs.Inside.{anew_at}
@@ -52,11 +52,18 @@ module _ (percent : ℕ) (bs : List ℕ) (flow : List ℤ) (table : List ℕ) (b
 
     pub ends_unfit : {o : Option Survey} {r : Answer} → Surveys percent bs flow o → o ≡ None → r ≡ refused FlowUnfit
         → BackEnds percent b (lent bs flow table) (lent bs flow table) r
-    ends_unfit p e a = unfit ok (p.unfit e) (rw a (said_refused FlowUnfit (λ z. omega arith) (λ z. omega arith))) refl
+    ends_unfit p e a = unfit ok (p.unfit e) (rw a (said_refused FlowUnfit (λ z. omega arith))) refl
 
     module _ (q : Survey) (p : Surveyed percent bs flow q) where
       there : b < C.branches
       there = branch_there p may.there
+
+      -- The sizes that the calls on the way ask for.
+      pub below_here : b < 256
+      below_here = let s = sizes p may.there in omega (arith, s.1, s.2)
+
+      pub listed_here : (q.wires.branches ≤ 256) × (52 * q.wires.branches ≤ length table)
+      listed_here = ((sizes p may.there).1, omega (arith, may.passes.table_room, p.branches_are))
 
       pub raisable_here : Raisable q.wires.branches q.live q.brief q.latent
       raisable_here = raisable C (on flow) q.wires q.served q.live q.brief q.latent p.state p.held

@@ -1,4 +1,5 @@
 -- What `bring_back` promises.
+use Rattle.answer.specs.declared.Refusal.TheVariants.{AlreadyIn}
 use Rattle.std.specs.Prelude.{◌≡◌, List, ◌∷◌, ℕ, length, replicate}
 use Rattle.answer.specs.Answer.{Answer, Accepted}
 use Rattle.bits.specs.Field.{set_bit}
@@ -13,7 +14,7 @@ use Rattle.switch.specs.Check.{branch_check, branch_numbers}
 
 -- Refusals 21 and 1 to 8, then 9, then 17: already in service.
 abbrev pub back_check : ℕ → List ℕ → ℕ → ℕ → ℕ → Answer
-back_check percent bs flows bytes b = branch_check percent bs flows bytes b 1 17
+back_check percent bs flows bytes b = branch_check percent bs flows bytes b 1 AlreadyIn
 
 abbrev pub back_numbers : List ℕ
 back_numbers = 17 ∷ branch_numbers

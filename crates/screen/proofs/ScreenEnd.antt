@@ -9,22 +9,16 @@ use lib.ListN.{length, replicate}
 use Rattle.rows.specs.Row.{every, member, headed}
 use Rattle.rows.specs.Bit.{bit_at, has}
 use Rattle.rows.proofs.Row.{every_at, headed_rest, length_headed}
-use Rattle.answer.specs.Answer.{Answer, Accepted, Proper}
+use Rattle.answer.specs.Answer.{Answer, Accepted}
 use Rattle.answer.proofs.Said.{said_accepted}
 use Rattle.answer.proofs.Numbers.{gives_said}
 use Rattle.verdict.specs.Case.{on, Fits}
-use Rattle.verdict.specs.Update.{Lent}
 use Rattle.state.specs.Case.{case_in}
 use Rattle.state.specs.Call.{lent_check, lent_numbers, lent, OverloadSaid}
 use Rattle.state.specs.Inside.{Rewritten}
 use Rattle.state.proofs.Checked.{lent_gives, passed}
 use Rattle.state.proofs.Status.{branches_of}
 use Rattle.screen.specs.Promise.{ScreenEnds, refuses, overloads, accepts}
-
-pub screen_proper : {percent : ℕ} {before after : Lent} {r : Answer} → ScreenEnds percent before after r → Proper r
-screen_proper (refuses n a k) = a.proper
-screen_proper (overloads c o k) = o.answer.proper
-screen_proper (accepts c a s) = a.proper
 
 -- Every branch is listed.
 abbrev all_listed : List ℕ

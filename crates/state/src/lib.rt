@@ -6,6 +6,7 @@ ghost use Rattle.std.specs.Prelude.{◌≡◌, ℕ, ◌+◌, ◌*◌, ◌<◌, �
 ghost use Rattle.rows.specs.Row.{nth, headed};
 ghost use Rattle.rows.specs.Bit.{has};
 ghost use Rattle.rows.specs.Sum.{pick};
+ghost use Rattle.answer.specs.declared.Refusal.TheVariants.{Overloaded};
 ghost use Rattle.verdict.specs.Case.{Case};
 ghost use Rattle.verdict.specs.Excess.{Short};
 ghost use Rattle.verdict.specs.Island.{ShortNumber};
@@ -18,6 +19,7 @@ ghost use Rattle.state.specs.Inside.{Fillable, Severable, Rewritten};
 use answer::{Answer, Refusal};
 use book::CaseRows;
 use quantity::Kw;
+use reroute::Shortfall;
 use search::{Latent, Wires};
 
 // The limits in `live` are the normal ones, and those in `brief` what a loss is judged by; both are 0 for a branch out of service.
@@ -44,6 +46,14 @@ pub fn check_lent(percent: u32, book: &[u8], flows: usize, bytes: usize) -> Answ
         return Err(Refusal::TooShort);
     }
     Ok(())
+}
+
+// Refusal 12, of what is short.
+pub fn overloaded(lack: Shortfall) -> Refusal
+    ensures { result ≡ Overloaded lack.excess lack.group }
+{
+    let Shortfall { excess: kw, group } = lack;
+    Refusal::Overloaded { kw, group }
 }
 
 // The row of capacities: here the limits leave their kW.

@@ -10,7 +10,7 @@ use Rattle.rows.proofs.Row.{or_true, either_false}
 use Rattle.answer.specs.declared.Refusal.TheVariants.{NoTwoBuses, InjectionOutside}
 use Rattle.answer.specs.Answer.{Answer, Accepted, refused}
 use Rattle.answer.proofs.Refusals.{past, past_both, stands}
-use Rattle.answer.proofs.Numbers.{Gives, plain, gives_if, gives_then, inside, gives_more}
+use Rattle.answer.proofs.Numbers.{Gives, gives_if, gives_then, inside, gives_more}
 use Rattle.layout.specs.Book.{size}
 use Rattle.layout.specs.Layout.{buses_in}
 use Rattle.state.specs.Call.{lent_check, lent_numbers}
@@ -35,7 +35,7 @@ module _ {percent : ℕ} (bs : List ℕ) (flows bytes up down kw : ℕ) where
   movable e =
       let h = past_both (lent_check percent bs flows bytes) _ e in
       let t = past (leb (buses_in bs) up || (leb (buses_in bs) down || eqb up down)) _ _ h.1 in
-      let u = past (leaves_range bs up down kw) 20 Accepted t.1 in
+      let u = past (leaves_range bs up down kw) _ Accepted t.1 in
       let a = either_false (leb (buses_in bs) up) _ t.0 in
       let b = either_false (leb (buses_in bs) down) _ a.1 in
       let p = passed bs flows bytes h.0 in
@@ -60,7 +60,7 @@ module _ {percent : ℕ} (bs : List ℕ) (flows bytes up down kw : ℕ) where
 
 -- ---- Which numbers they give, and each way in which they end.
 module _ (percent : ℕ) (bs : List ℕ) (flows bytes up down kw : ℕ) where
-  pub rest_gives : (ns : List ℕ) → Gives ns (lent_check percent bs flows bytes) → plain 19 ns ≡ true → plain 20 ns ≡ true
+  pub rest_gives : (ns : List ℕ) → Gives ns (lent_check percent bs flows bytes) → member 19 ns ≡ true → member 20 ns ≡ true
       → Gives ns (transfer_check percent bs flows bytes up down kw)
   unfolding transfer_check
   rest_gives ns g i j =

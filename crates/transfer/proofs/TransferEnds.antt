@@ -2,7 +2,7 @@
 use mathlib.Core.Path.{◌≡◌, refl, sym, ap, ◌∙◌, subst}
 use mathlib.Core.Bool.{Bool, true}
 use mathlib.Core.List.{List}
-use Prim.Native.Nat.{ℕ, ◌+◌, ◌≤◌, ◌<◌}
+use Prim.Native.Nat.{ℕ, ◌+◌, ◌*◌, ◌≤◌, ◌<◌}
 use native.Mathlib.Omega.{arith}
 use lib.IntN.{ℤ, pos, nat_abs, ◌-ℤ◌}
 use lib.ListN.{length}
@@ -87,7 +87,7 @@ module _ (percent : ℕ) (bs : List ℕ) (flow : List ℤ) (table : List ℕ) (u
 
     pub ends_unfit : {o : Option Survey} {r : Answer} → Surveys percent bs flow o → o ≡ None → r ≡ refused FlowUnfit
         → TransferEnds percent up down kw (lent bs flow table) (lent bs flow table) r
-    ends_unfit p e a = unfit ok (p.unfit e) (rw a (said_refused FlowUnfit (λ z. omega arith) (λ z. omega arith))) refl
+    ends_unfit p e a = unfit ok (p.unfit e) (rw a (said_refused FlowUnfit (λ z. omega arith))) refl
 
     module _ (q : Survey) (p : Surveyed percent bs flow q) where
       state : State (normal C) (on flow) q.wires q.served q.live q.latent
@@ -95,6 +95,9 @@ module _ (percent : ℕ) (bs : List ℕ) (flow : List ℤ) (table : List ℕ) (u
 
       lent_fits : Fits C C.limit (on flow)
       lent_fits = (fits_normal C C.limit (on flow)).1 state.fits
+
+      pub listed_here : (q.wires.branches ≤ 256) × (52 * q.wires.branches ≤ length table)
+      listed_here = (p.held.linked.wired.size, omega (arith, may.passes.table_room, p.branches_are))
 
       pub deliverable_here : Deliverable q.wires q.latent up down kw
       deliverable_here = record {
