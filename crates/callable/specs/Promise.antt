@@ -1,6 +1,5 @@
 -- What the exported calls promise: those of `screen`, `outage`, `restore`, `transfer` and `forms`, with the answer in its parts.
-use Rattle.std.specs.Prelude.{◌≡◌, List, ℕ}
-use Rattle.std.specs.Prelude.{Option}
+use Rattle.std.specs.Prelude.{◌≡◌, List, ℕ, Option}
 use Rattle.answer.specs.declared.Place.{Place}
 use Rattle.answer.specs.Answer.{Answer, Said, field_of, item_of}
 

@@ -43,7 +43,7 @@ by_checks : (ns ms : List ℕ) (kept : Type 0) (o : Answer) (r : Answer) → Giv
 by_checks ns ms kept o r g i s h = record {
   given = rw s.number_is (gives_number ms o (gives_more ns ms o i g));
   silent = λ n. rw (s.number_is, s.place_is) s;
-  place_given = rw (s.number_is, s.place_is) (gives_place ns o g);
+  place_given = rw (s.number_is, s.place_is) (gives_place o);
   refused_keeps = h;
 }
 

@@ -9,7 +9,7 @@ use lib.IntN.{ℤ, pos, nat_abs}
 use lib.Signed.{◌≤ℤ◌, ◌<ℤ◌}
 use Rattle.rows.specs.Sum.{Group}
 use Rattle.rows.specs.Bit.{has}
-use Rattle.answer.specs.Answer.{Answer, Accepted, number_of, shortage_of}
+use Rattle.answer.specs.Answer.{Answer, Accepted, number_of, shortage_of, group_of}
 use Rattle.grid.proofs.Net.{gains, loads, ratings}
 use Rattle.verdict.specs.Case.{Case, Posed, out, on, Fits}
 use Rattle.verdict.specs.Excess.{P, R, RWithout, one_end, excess, excess_without, NoExcess, Overload, Carries, Short}
@@ -84,13 +84,13 @@ module _ {percent : ℕ} {before after : Lent} {r : Answer} (e : ScreenEnds perc
 
   -- ---- The base excess.
   -- Refused with 12: the excess shown is the base excess, above 0, and the group the smallest reaching it.
-  pub refused_shows : number_of r ≡ 12 → Overload C (shortage_of r) (has r.group)
+  pub refused_shows : number_of r ≡ 12 → Overload C (shortage_of r) (has (group_of r))
   refused_shows n =
       let o = over_12 e n in
-      subst (λ (v : ℕ). Overload C v (has r.group)) (sym o.answer.shortage_is) (subst (λ (g : List ℕ). Overload C o.shortage (has g)) (sym o.answer.group_is) o.overload)
+      subst (λ (v : ℕ). Overload C v (has (group_of r))) (sym o.answer.shortage_is) (subst (λ (g : List ℕ). Overload C o.shortage (has g)) (sym o.answer.group_is) o.overload)
 
-  pub refused_surplus : number_of r ≡ 12 → pos 0 <ℤ P C (has r.group)
-  refused_surplus n = told.overload_surplus C (shortage_of r) (has r.group) (refused_shows n)
+  pub refused_surplus : number_of r ≡ 12 → pos 0 <ℤ P C (has (group_of r))
+  refused_surplus n = told.overload_surplus C (shortage_of r) (has (group_of r)) (refused_shows n)
 
   module _ (checked : screen_check percent before ≡ Accepted) where
     posed_here : Posed C

@@ -42,14 +42,14 @@ pub over_not : {C : Case} {r : Answer} → OverloadSaid C r → r ≡ Accepted �
 over_not o = never_accepted o.answer.number_is (λ z. omega arith)
 
 -- A refusal by the checks is no accepted call.
-pub refused_not : (ns : List ℕ) (o : Answer) {r : Answer} → member 0 ns ≡ false → member 12 ns ≡ false → Gives ns o
+pub refused_not : (ns : List ℕ) (o : Answer) {r : Answer} → member 12 ns ≡ false → Gives ns o
     → (o ≡ Accepted → ⊥) → SaidBy o r → r ≡ Accepted → ⊥
-refused_not ns o z t g n s e = n (ap (λ (x : Answer). x) (sym (said_is ns o z t g s) ∙ e))
+refused_not ns o t g n s e = n (sym (said_is ns o t g s) ∙ e)
 
 -- ---- A screen.
 module _ {percent : ℕ} {before after : Lent} {r : Answer} where
   pub done : ScreenEnds percent before after r → r ≡ Accepted → Done percent before after
-  done e a = accepted_screen e (ap (λ (x : Answer). x) a)
+  done e a = accepted_screen e a
 
   pub over_12 : ScreenEnds percent before after r → number_of r ≡ 12 → OverloadSaid (case_in percent before.book) r
   unfolding member
@@ -68,7 +68,7 @@ module _ (ns : List ℕ) {check : Answer} {C D : Case} {what : Type 0} {before a
     (z : member 0 ns ≡ false) (t : member 12 ns ≡ false) (g : Gives ns check) where
   -- Accepted, it did what it promises.
   pub call_done : Ends check C D what before after r → r ≡ Accepted → CallDone check C what before
-  call_done (call.refuses n a k) e = absurd (refused_not ns _ z t g n a e)
+  call_done (call.refuses n a k) e = absurd (refused_not ns _ t g n a e)
   call_done (call.unfit c n a k) e = absurd (never_accepted a.number_is (λ q. omega arith) e)
   call_done (call.overloads c f o k) e = absurd (over_not o e)
   call_done (call.accepts c f a o) e = record { passes = c; fitted = f; did = o }
@@ -81,11 +81,11 @@ module _ (ns : List ℕ) {check : Answer} {C D : Case} {what : Type 0} {before a
   call_over (call.accepts c f a o) e = absurd (omega (arith, a.number_is, e))
 
   -- It was accepted or it wasn't.
-  pub call-Accepted? : Ends check C D what before after r → Dec (r ≡ Accepted)
-  call-Accepted? (call.refuses n a k) = no (refused_not ns _ z t g n a)
-  call-Accepted? (call.unfit c n a k) = no (never_accepted a.number_is (λ q. omega arith))
-  call-Accepted? (call.overloads c f o k) = no (over_not o)
-  call-Accepted? (call.accepts c f a o) = yes (is_accepted a)
+  pub call-accepted? : Ends check C D what before after r → Dec (r ≡ Accepted)
+  call-accepted? (call.refuses n a k) = no (refused_not ns _ t g n a)
+  call-accepted? (call.unfit c n a k) = no (never_accepted a.number_is (λ q. omega arith))
+  call-accepted? (call.overloads c f o k) = no (over_not o)
+  call-accepted? (call.accepts c f a o) = yes (is_accepted a)
 
 -- ---- An outage.
 pub record TakeDone (percent b : ℕ) (before after : Lent) : Type 0 where

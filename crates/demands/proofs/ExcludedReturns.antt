@@ -57,7 +57,7 @@ module _ {percent : ℕ} {before after : Lent} {b : ℕ} {r : Answer} (e : BackE
       → SaidBy (refused AlreadyIn) r
   seventeen_first p there on_now =
       let bs = before.book in
-      let c = by_status percent bs (length before.flow) (length before.table) b 1 17 (passing _ _ _ p) there (branch_at bs b) (form_in bs)
+      let c = by_status percent bs (length before.flow) (length before.table) b 1 AlreadyIn (passing _ _ _ p) there (branch_at bs b) (form_in bs)
       (buses_in bs) refl refl refl
       (served_status percent bs b there on_now) in
       subst (λ (o : Answer). SaidBy o r) (sym c) (call_first e (λ q. refusal_stands AlreadyIn (c ∙ q)))

@@ -1,5 +1,7 @@
 -- A book and the same book moved to another form: what a screen or a call on the moved one ends with, the one on the first may end with too, lent the
 -- same flow and table. So by uniqueness they answer alike.
+use Rattle.answer.specs.declared.Refusal.{Refusal}
+use Rattle.answer.specs.declared.Refusal.TheVariants.{AlreadyOut, AlreadyIn}
 use mathlib.Core.Path.{◌≡◌, refl, sym, ap, ◌∙◌, subst}
 use mathlib.Core.Bool.{Bool, true, false, ◌||◌}
 use mathlib.Core.List.{List}
@@ -51,7 +53,7 @@ module _ (percent : ℕ) {bs : List ℕ} {f : Form} {room room' : List ℕ} (ok 
   unfolding lent_check
   check_moved flows bytes = rw (ok, m.still_accepted, count_moved) refl
 
-  branch_moved : (flows bytes b v n : ℕ) → branch_check percent moved flows bytes b v n ≡ branch_check percent bs flows bytes b v n
+  branch_moved : (flows bytes b v : ℕ) (n : Refusal) → branch_check percent moved flows bytes b v n ≡ branch_check percent bs flows bytes b v n
   unfolding branch_check
   branch_moved flows bytes b v n = rw (check_moved flows bytes, count_moved, m.says) refl
 
@@ -120,7 +122,7 @@ module _ (percent : ℕ) {bs : List ℕ} {f : Form} {room room' : List ℕ} (ok 
       (x.0, call.accepts (sym e ∙ q) (subst (λ (C : Case). Fits C C.limit (on flow)) c h) a x.1)
 
   -- The book has its own status bit changed.
-  restated_at : (flows bytes b v n : ℕ) → v < 2 → branch_check percent bs flows bytes b v n ≡ Accepted
+  restated_at : (flows bytes b v : ℕ) (n : Refusal) → v < 2 → branch_check percent bs flows bytes b v n ≡ Accepted
       → Restated percent bs b v (set_bit bs (status_bit bs b) v)
   restated_at flows bytes b v n l c = restates percent bs b v ok (switchable bs flows bytes b v n c).there l
 
@@ -144,9 +146,9 @@ module _ (percent : ℕ) {bs : List ℕ} {f : Form} {room room' : List ℕ} (ok 
 
     pub take_moved : {b : ℕ} {r : Answer} → TakeEnds percent b (lent moved flow table) after r
         → (bs' : List ℕ) × TakeEnds percent b (lent bs flow table) (beside bs' after) r
-    take_moved {b} = ends_moved (λ bs'. TakenOut percent b (lent bs flow table) (beside bs' after)) (branch_moved _ _ b 0 10) (m.same_case percent)
+    take_moved {b} = ends_moved (λ bs'. TakenOut percent b (lent bs flow table) (beside bs' after)) (branch_moved _ _ b 0 AlreadyOut) (m.same_case percent)
         (ap (λ (C : Case). out C b) (m.same_case percent)) (λ c o.
-        let s = restated_at _ _ b 0 10 (omega arith) c in (
+        let s = restated_at _ _ b 0 AlreadyOut (omega arith) c in (
           set_bit bs (status_bit bs b) 0,
           record {
             book_is = refl;
@@ -164,10 +166,10 @@ module _ (percent : ℕ) {bs : List ℕ} {f : Form} {room room' : List ℕ} (ok 
 
     pub back_moved : {b : ℕ} {r : Answer} → BackEnds percent b (lent moved flow table) after r
         → (bs' : List ℕ) × BackEnds percent b (lent bs flow table) (beside bs' after) r
-    back_moved {b} = ends_moved (λ bs'. BroughtBack percent b (lent bs flow table) (beside bs' after)) (branch_moved _ _ b 1 17)
+    back_moved {b} = ends_moved (λ bs'. BroughtBack percent b (lent bs flow table) (beside bs' after)) (branch_moved _ _ b 1 AlreadyIn)
         (m.same_case percent)
         (ap (λ (C : Case). back C b) (m.same_case percent)) (λ c o.
-        let s = restated_at _ _ b 1 17 (omega arith) c in (
+        let s = restated_at _ _ b 1 AlreadyIn (omega arith) c in (
           set_bit bs (status_bit bs b) 1,
           record {
             book_is = refl;

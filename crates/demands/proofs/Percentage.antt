@@ -1,5 +1,6 @@
 -- The percentage: 21 exactly where it is out of range, before all others; within its range no check looks at it; at 100 the limits are document
 -- 01's, and none falls as it rises.
+use Rattle.answer.specs.declared.Refusal.{Refusal}
 use mathlib.Core.Path.{◌≡◌, refl, sym, ◌∙◌, subst}
 use mathlib.Core.Bool.{Bool, true, false}
 use mathlib.Core.List.{List, [], ◌∷◌}
@@ -7,10 +8,10 @@ use Prim.Native.Nat.{ℕ, ◌*◌, ◌/◌, ◌≤◌}
 use native.Mathlib.Omega.{arith}
 use lib.ListN.{length}
 use Rattle.rows.specs.Row.{member}
-use Rattle.answer.specs.declared.Refusal.TheVariants.{PercentOutside}
-use Rattle.answer.specs.Answer.{Answer, Accepted, At, SaidBy, number_of, place_of, refused}
+use Rattle.answer.specs.declared.Refusal.TheVariants.{PercentOutside, AlreadyOut, AlreadyIn}
+use Rattle.answer.specs.Answer.{Answer, Accepted, At, SaidBy, number, number_of, place_of, refused}
 use Rattle.answer.proofs.Refusals.{refusal_stands, at_not_nowhere}
-use Rattle.answer.proofs.Numbers.{Gives, plain, inside, gives_not, gives_more}
+use Rattle.answer.proofs.Numbers.{Gives, inside, gives_not, gives_more}
 use Rattle.quantity.specs.Rating.{percent_out}
 use Rattle.quantity.proofs.Limits.{limit_full, limit_by_percent}
 use Rattle.layout.specs.Book.{Book, branch}
@@ -53,14 +54,14 @@ module _ (percent : ℕ) (bs : List ℕ) (flows bytes : ℕ) where
   }
 
   -- n is what a branch switched already is refused with.
-  branch_guarded : (b v n : ℕ) → plain n (past_percent n) ≡ true → member 21 (past_percent n) ≡ false
+  branch_guarded : (b v : ℕ) (n : Refusal) → member (number n) (past_percent (number n)) ≡ true → member 21 (past_percent (number n)) ≡ false
       → Guarded percent (branch_check percent bs flows bytes b v n)
   unfolding member inside
   branch_guarded b v n p m = record {
     outside = λ o. sym (by_lent percent bs flows bytes b v n (refused PercentOutside) (by_percent percent bs flows bytes o) (refusal_stands PercentOutside));
     within = λ i.
-        let g = gives_more (8 ∷ check_numbers) (past_percent n) (lent_check percent bs flows bytes) refl (in_range_gives percent bs flows bytes i) in
-        not_21 (past_percent n) (branch_check percent bs flows bytes b v n) (branch_gives percent bs flows bytes b v n (past_percent n) g refl p) m;
+        let g = gives_more (8 ∷ check_numbers) (past_percent (number n)) (lent_check percent bs flows bytes) refl (in_range_gives percent bs flows bytes i) in
+        not_21 (past_percent (number n)) (branch_check percent bs flows bytes b v n) (branch_gives percent bs flows bytes b v n (past_percent (number n)) g refl p) m;
   }
 
   -- 19 and 20 of a move of load.
@@ -113,11 +114,11 @@ module _ {percent : ℕ} {before after : Lent} {r : Answer} where
 
   pub take_percent : {b : ℕ} → TakeEnds percent b before after r → PercentFirst percent before after r
   unfolding member
-  take_percent {b} e = ends_percent (branch_guarded _ _ _ _ b 0 10 refl refl) e
+  take_percent {b} e = ends_percent (branch_guarded _ _ _ _ b 0 AlreadyOut refl refl) e
 
   pub back_percent : {b : ℕ} → BackEnds percent b before after r → PercentFirst percent before after r
   unfolding member
-  back_percent {b} e = ends_percent (branch_guarded _ _ _ _ b 1 17 refl refl) e
+  back_percent {b} e = ends_percent (branch_guarded _ _ _ _ b 1 AlreadyIn refl refl) e
 
   pub transfer_percent : {up down kw : ℕ} → TransferEnds percent up down kw before after r → PercentFirst percent before after r
   transfer_percent {up} {down} {kw} e = ends_percent (transfer_guarded _ _ _ _ up down kw) e
@@ -137,7 +138,7 @@ module _ (p q : ℕ) (one : percent_out p ≡ false) (two : percent_out q ≡ fa
   unfolding lent_check
   lent_alike = rw (one, two) refl
 
-  pub branch_alike : (b v n : ℕ) → branch_check p bs flows bytes b v n ≡ branch_check q bs flows bytes b v n
+  pub branch_alike : (b v : ℕ) (n : Refusal) → branch_check p bs flows bytes b v n ≡ branch_check q bs flows bytes b v n
   unfolding branch_check
   branch_alike b v n = rw lent_alike refl
 

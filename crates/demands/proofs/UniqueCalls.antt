@@ -185,7 +185,7 @@ module _ {percent : ℕ} {before one two : Lent} {b : ℕ} {r s : Taken} where
   pub counted_same : TakeCounted percent b before one r → TakeCounted percent b before two s
       → ((k : ℕ) → k < (lent_case percent before).branches → AgreeTaken percent before b one two k) → r.judged ≡ s.judged
   unfolding member
-  counted_same x y agree = go (call-Accepted? take_numbers refl refl (take_gives _ _ _ _ _) x.ends)
+  counted_same x y agree = go (call-accepted? take_numbers refl refl (take_gives _ _ _ _ _) x.ends)
     where
       same : r.answer ≡ s.answer
       same = (calls_same x.ends y.ends).answers

@@ -63,7 +63,7 @@ unfolding member
 returns_same {percent} {before} {one} {two} {b} {r} {s} x y = record {
   same = all;
   same_flow = ext_get_or (pos 0) one.flow two.flow all.beyond.flow_long (λ j l. all.flows j (λ z. z));
-  same_own = own (call-Accepted? back_numbers refl refl (back_gives _ _ _ _ _) x);
+  same_own = own (call-accepted? back_numbers refl refl (back_gives _ _ _ _ _) x);
 }
   where
     all : SameResult (back (lent_case percent before) b) NoFlow (Anew before.table b) Each one two r s

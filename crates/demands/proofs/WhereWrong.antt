@@ -1,4 +1,5 @@
 -- Where the book is wrong: each call passes on what the check of the fields says, and the place is that of the first broken rule.
+use Rattle.answer.specs.declared.Refusal.{Refusal}
 use mathlib.Core.Path.{◌≡◌, refl, sym, ap, subst, ◌∙◌}
 use mathlib.Core.Bool.{false, ◌||◌}
 use mathlib.Core.List.{List}
@@ -7,7 +8,7 @@ use native.Mathlib.Omega.{arith}
 use lib.Dec.{ltb, leb, eqb}
 use lib.IntN.{ℤ}
 use lib.ListN.{length}
-use Rattle.answer.specs.Answer.{Answer, Accepted, At, Nowhere, SaidBy, and_then, number_of, place_of}
+use Rattle.answer.specs.Answer.{Answer, Accepted, At, Nowhere, SaidBy, and_then, number_of, place_of, refused}
 use Rattle.answer.proofs.Refusals.{stands, if_nowhere, at_not_nowhere, placed_before}
 use Rattle.quantity.specs.Rating.{percent_out}
 use Rattle.layout.specs.declared.Form.{Form}
@@ -67,11 +68,11 @@ module _ (bs : List ℕ) where
         rw in_range
         (begins_then (check_of bs) _ (if_nowhere (ltb flows (branches_in bs) || ltb bytes (52 * branches_in bs)) _ Accepted refl refl) (begins_with bs))
 
-    branch_begins : (flows bytes b v n : ℕ) → Begins bs (branch_check percent bs flows bytes b v n)
+    branch_begins : (flows bytes b v : ℕ) (n : Refusal) → place_of (refused n) ≡ Nowhere → Begins bs (branch_check percent bs flows bytes b v n)
     unfolding branch_check
-    branch_begins flows bytes b v n =
+    branch_begins flows bytes b v n w =
         begins_then (lent_check percent bs flows bytes) _
-        (if_nowhere (leb (branches_in bs) b) _ _ refl (if_nowhere (eqb (branch (book_of bs) b).status v) n Accepted refl))
+        (if_nowhere (leb (branches_in bs) b) _ _ refl (if_nowhere (eqb (branch (book_of bs) b).status v) n Accepted w refl))
         (lent_begins flows bytes)
 
     transfer_begins : (flows bytes up down kw : ℕ) → Begins bs (transfer_check percent bs flows bytes up down kw)
@@ -117,10 +118,10 @@ ends_tells b (call.accepts c f a o) = past_check b c a.place_is
 
 module _ {percent b : ℕ} {before after : Lent} {r : Answer} where
   pub take_tells : percent_out percent ≡ false → TakeEnds percent b before after r → Tells before.book r
-  take_tells i e = ends_tells (branch_begins _ _ i _ _ _ _ _) e
+  take_tells i e = ends_tells (branch_begins _ _ i _ _ _ _ _ refl) e
 
   pub back_tells : percent_out percent ≡ false → BackEnds percent b before after r → Tells before.book r
-  back_tells i e = ends_tells (branch_begins _ _ i _ _ _ _ _) e
+  back_tells i e = ends_tells (branch_begins _ _ i _ _ _ _ _ refl) e
 
 pub transfer_tells : {percent up down kw : ℕ} {before after : Lent} {r : Answer} → percent_out percent ≡ false
     → TransferEnds percent up down kw before after r → Tells before.book r

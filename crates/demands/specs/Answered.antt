@@ -1,7 +1,6 @@
 -- What demand 1 asks of every result of a public call, and of one that rests on a limit.
-use Rattle.std.specs.Prelude.{◌≡◌, true, false, List, ◌∷◌, ℕ}
+use Rattle.std.specs.Prelude.{◌≡◌, true, false, List, ◌∷◌, ℕ, is_some}
 use Rattle.rows.specs.Row.{member}
-use Rattle.std.specs.Prelude.{is_some}
 use Rattle.answer.specs.declared.Refusal.TheVariants.{PercentOutside}
 use Rattle.answer.specs.Answer.{Answer, Accepted, SaidBy, number_of, place_of, placed, refused}
 use Rattle.quantity.specs.Rating.{percent_out}
@@ -12,7 +11,7 @@ use Rattle.verdict.specs.Update.{Lent}
 pub record Answered (numbers : List ℕ) (kept : Type 0) (r : Answer) : Type 0 where
   pub given : member (number_of r) (0 ∷ numbers) ≡ true
   pub silent : (number_of r ≡ 12 → ⊥) → SaidBy r r
-  pub place_given : has_place (place_of r) ≡ member (number_of r) placed
+  pub place_given : is_some (place_of r) ≡ member (number_of r) placed
   pub refused_keeps : (r ≡ Accepted → ⊥) → kept
 
 -- A percentage outside 50 to 100 is refused with 21 before all others, and nothing lent changes; one within is never refused so.
