@@ -22,18 +22,10 @@ use Rattle.reroute.specs.InsideVerdicts.{Carrying, Says, Grouped, Basic, Based, 
 use Rattle.reroute.specs.Inside.{short_by, Judged, cut_at, Opened}
 use Rattle.reroute.specs.declared.Rest.{Rest}
 use Rattle.reroute.specs.declared.Moved.{Moved}
-use Rattle.std.specs.Prelude.{None, Some}
+use Rattle.std.specs.Prelude.{Some}
 use Rattle.reroute.specs.declared.Shortfall.{Shortfall}
 use Rattle.reroute.specs.declared.Judgement.{Judgement}
 use Rattle.reroute.proofs.OnePlace.{pick_sub, one_at, set_zero, cut_same, cut_none}
-
-pub short_none : (n : ℕ) (g : List ℕ) → n ≡ 0 → None ≡ short_by n g
-short_none zero g e = refl
-short_none (suc n) g e = absurd (omega arith)
-
-pub short_some : (n : ℕ) (g : List ℕ) → (n ≡ 0 → ⊥) → Some (record { excess = n; group = g }) ≡ short_by n g
-short_some zero g e = absurd (e refl)
-short_some (suc n) g e = refl
 
 short_group : (n : ℕ) (g : List ℕ) (s : Shortfall) → short_by n g ≡ Some s → s.group ≡ g
 short_group zero g s e = cc
@@ -80,11 +72,6 @@ pub judged_grouped : {W : Wires} {latent : Latent} {rest : Rest} {r : Moved} {j 
 judged_grouped {r = r} R J s e =
     let g : s.group ≡ r.group = short_group r.left r.group s (sym J.short ∙ e) in
     rw g (record { long = J.long; beyond = R.beyond; bytes = R.bytes })
-
--- The base flow.
-pub basic_ready : {W : Wires} {limit gain load : List ℕ} → Basic W limit gain load
-    → Reroutable W (record { ahead = limit; back = limit }) (record { surplus = gain; deficit = load })
-basic_ready P = record { linked = P.linked; sums = record { fit = λ k h. omega (arith, P.limits k h) }; small = P.gains_small; apart = P.apart }
 
 pub based : {W : Wires} {limit gain load : List ℕ} → Basic W limit gain load → {m : Moved}
     → Reroutes W (record { ahead = limit; back = limit }) (record { surplus = gain; deficit = load }) m → {j : Judgement} → Judged m j
