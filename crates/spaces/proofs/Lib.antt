@@ -1,4 +1,1 @@
-pub mod SetOrUnchanged
-pub mod Signed
-pub mod AskedNumber
-pub mod NumbersInTurn
+pub mod BookCopied

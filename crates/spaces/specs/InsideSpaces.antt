@@ -1,54 +1,57 @@
--- What the commands that only set a space leave: all spoilt, the book set, the percentage set, one place set.
-use Rattle.std.specs.Prelude.{◌≡◌, Bool, cond, ◌&&◌, List, ℕ, ◌+◌, ◌≤◌, leb, ltb, ℤ, pos, length, set, replicate}
+-- What the commands that only set a space leave: all spoilt, the book set, one place set.
+use Rattle.std.specs.Prelude.{◌≡◌, Bool, cond, ◌&&◌, List, ℕ, ◌+◌, leb, ltb, pos, length, set, replicate, Option, Some, None}
 use Rattle.rows.specs.Row.{nth, headed, two_at}
-use Rattle.spaces.specs.declared.Next.{Next}
-use Rattle.spaces.specs.InsideStream.{four_at, signed_from}
+use Rattle.spaces.specs.declared.Spaces.{Spaces}
+use Rattle.spaces.specs.InsideStream.{four_at, signed_from, book_reach}
 
 -- The stream has the bytes of the command, and the space the place that it names.
 abbrev pub in_reach : ℕ → List ℕ → ℕ → Bool
 in_reach size rest room = leb size (length rest) && ltb (two_at rest 1) room
 
 -- A command of so many bytes sets the place that it names; a bad one takes no byte and changes nothing.
-pub record PlaceSet {A : Type 0} (size : ℕ) (v : A) (rest : List ℕ) (space space' : List A) (r : ℕ) : Type 0 where
-  pub took : r ≡ cond (in_reach size rest (length space)) size 0
+pub record PlaceSet {A : Type 0} (size : ℕ) (v : A) (rest : List ℕ) (space space' : List A) (r : Option ℕ) : Type 0 where
+  pub took : r ≡ cond (in_reach size rest (length space)) (Some size) None
   pub left : space' ≡ cond (in_reach size rest (length space)) (set space (two_at rest 1) v) space
 
--- `F`, `T`, `I` and `N` each set one place of their own space; another letter takes no byte. The other spaces are as they were.
-pub data PlacesSet (letter : ℕ) (rest : List ℕ) (flow : List ℤ) (table : List ℕ) (injections : List ℤ) (branches : List ℕ)
-    (flow' : List ℤ) (table' : List ℕ) (injections' : List ℤ) (branches' : List ℕ) (r : ℕ) : Type 0 where
-  in_flow : letter ≡ 70 → PlaceSet 7 (signed_from (four_at rest 3)) rest flow flow' r → table' ≡ table → injections' ≡ injections → branches' ≡ branches
-      → PlacesSet letter rest flow table injections branches flow' table' injections' branches' r
-  in_table : letter ≡ 84 → PlaceSet 4 (nth rest 3) rest table table' r → flow' ≡ flow → injections' ≡ injections → branches' ≡ branches
-      → PlacesSet letter rest flow table injections branches flow' table' injections' branches' r
-  in_injections : letter ≡ 73 → PlaceSet 7 (signed_from (four_at rest 3)) rest injections injections' r → flow' ≡ flow → table' ≡ table → branches' ≡ branches
-      → PlacesSet letter rest flow table injections branches flow' table' injections' branches' r
-  in_branches : letter ≡ 78 → PlaceSet 7 (four_at rest 3) rest branches branches' r → flow' ≡ flow → table' ≡ table → injections' ≡ injections
-      → PlacesSet letter rest flow table injections branches flow' table' injections' branches' r
-  in_none : (letter ≡ 70 → ⊥) → (letter ≡ 84 → ⊥) → (letter ≡ 73 → ⊥) → (letter ≡ 78 → ⊥) → r ≡ 0
-      → flow' ≡ flow → table' ≡ table → injections' ≡ injections → branches' ≡ branches
-      → PlacesSet letter rest flow table injections branches flow' table' injections' branches' r
+-- `F`, `T`, `I` and `N` each set one place of their own space; another letter takes no byte. The other three are as they were.
+pub data PlacesSet (letter : ℕ) (rest : List ℕ) (s s' : Spaces) (r : Option ℕ) : Type 0 where
+  in_flow : letter ≡ 70 → PlaceSet 7 (signed_from (four_at rest 3)) rest s.flow s'.flow r
+      → s'.table ≡ s.table → s'.injections ≡ s.injections → s'.branches ≡ s.branches → PlacesSet letter rest s s' r
+  in_table : letter ≡ 84 → PlaceSet 4 (nth rest 3) rest s.table s'.table r
+      → s'.flow ≡ s.flow → s'.injections ≡ s.injections → s'.branches ≡ s.branches → PlacesSet letter rest s s' r
+  in_injections : letter ≡ 73 → PlaceSet 7 (signed_from (four_at rest 3)) rest s.injections s'.injections r
+      → s'.flow ≡ s.flow → s'.table ≡ s.table → s'.branches ≡ s.branches → PlacesSet letter rest s s' r
+  in_branches : letter ≡ 78 → PlaceSet 7 (four_at rest 3) rest s.branches s'.branches r
+      → s'.flow ≡ s.flow → s'.table ≡ s.table → s'.injections ≡ s.injections → PlacesSet letter rest s s' r
+  in_none : (letter ≡ 70 → ⊥) → (letter ≡ 84 → ⊥) → (letter ≡ 73 → ⊥) → (letter ≡ 78 → ⊥) → r ≡ None
+      → s'.flow ≡ s.flow → s'.table ≡ s.table → s'.injections ≡ s.injections → s'.branches ≡ s.branches → PlacesSet letter rest s s' r
 
--- `P`: every flow, injection and branch number is 7777777, every table, book and shelf byte 170.
-pub record Spoilt (book : List ℕ) (flow : List ℤ) (table : List ℕ) (injections : List ℤ) (branches shelf : List ℕ) : Type 0 where
-  pub book_is : book ≡ replicate 2100 170
-  pub flow_is : flow ≡ replicate 256 (pos 7777777)
-  pub table_is : table ≡ replicate 13312 170
-  pub injections_is : injections ≡ replicate 128 (pos 7777777)
-  pub branches_is : branches ≡ replicate 1280 7777777
-  pub shelf_is : shelf ≡ replicate 2100 170
+-- And all that these letters never set.
+pub record Beside (s s' : Spaces) : Type 0 where
+  pub percent_is : s'.percent ≡ s.percent
+  pub book_is : s'.book ≡ s.book
+  pub bytes_is : s'.bytes ≡ s.bytes
+  pub shelf_is : s'.shelf ≡ s.shelf
 
--- `B`: the stream has the count and so many bytes after it, and the book space holds them.
-abbrev pub book_reach : List ℕ → ℕ → Bool
-book_reach rest room = leb 3 (length rest) && (leb (two_at rest 1) room && leb (3 + two_at rest 1) (length rest))
+-- `P`: every flow, injection and branch number is 7777777, every table, book and shelf byte 170, and the book has none.
+pub record Spoilt (s s' : Spaces) : Type 0 where
+  pub book_is : s'.book ≡ replicate 2100 170
+  pub bytes_is : s'.bytes ≡ 0
+  pub flow_is : s'.flow ≡ replicate 256 (pos 7777777)
+  pub table_is : s'.table ≡ replicate 13312 170
+  pub injections_is : s'.injections ≡ replicate 128 (pos 7777777)
+  pub branches_is : s'.branches ≡ replicate 1280 7777777
+  pub shelf_is : s'.shelf ≡ replicate 2100 170
+  pub percent_is : s'.percent ≡ s.percent
 
--- The first bytes of the book space are these, and the book has so many; a bad command takes no byte and changes nothing.
-pub record BookSet (rest book : List ℕ) (bytes : ℕ) (book' : List ℕ) (r : Next) : Type 0 where
-  pub took : r.taken ≡ cond (book_reach rest (length book)) (3 + two_at rest 1) 0
-  pub has_bytes : r.bytes ≡ cond (book_reach rest (length book)) (two_at rest 1) bytes
-  pub left : book' ≡ cond (book_reach rest (length book)) (headed (two_at rest 1) (λ i. nth rest (3 + i)) book) book
-  pub within : (r.taken ≤ length rest) × (r.bytes ≤ length book)
-
--- `Y`: the percentage is the byte after the letter; where the stream ends before it, the command takes no byte and changes nothing.
-pub record PercentSet (rest : List ℕ) (percent percent' r : ℕ) : Type 0 where
-  pub took : r ≡ cond (leb 2 (length rest)) 2 0
-  pub left : percent' ≡ cond (leb 2 (length rest)) (nth rest 1) percent
+-- `B`: the first bytes of the book space are those of the command, and the book has so many; a bad command takes no byte and changes nothing.
+pub record BookSet (rest : List ℕ) (s s' : Spaces) (r : Option ℕ) : Type 0 where
+  pub took : r ≡ cond (book_reach rest (length s.book)) (Some (3 + two_at rest 1)) None
+  pub has_bytes : s'.bytes ≡ cond (book_reach rest (length s.book)) (two_at rest 1) s.bytes
+  pub left : s'.book ≡ cond (book_reach rest (length s.book)) (headed (two_at rest 1) (λ i. nth rest (3 + i)) s.book) s.book
+  pub flow_is : s'.flow ≡ s.flow
+  pub table_is : s'.table ≡ s.table
+  pub injections_is : s'.injections ≡ s.injections
+  pub branches_is : s'.branches ≡ s.branches
+  pub shelf_is : s'.shelf ≡ s.shelf
+  pub percent_is : s'.percent ≡ s.percent

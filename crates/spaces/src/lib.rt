@@ -1,148 +1,125 @@
-// The spaces that a stream of calls works on, and the commands that only set them. Each answers how many bytes of the stream it took, and 0 where it is bad.
+// The spaces that a stream of calls works on, and the commands that only set them. Each answers how many bytes of the stream it took, and `None` where it is
+// bad.
 #![tactic(auto)]
 
-ghost use Rattle.std.specs.Prelude.{◌≡◌, ◌<◌, ◌≤◌, length};
-ghost use Rattle.rows.specs.Row.{nth};
-ghost use Rattle.spaces.specs.InsideStream.{four_at, signed_from};
-ghost use Rattle.spaces.specs.InsideSpaces.{Spoilt, BookSet, PercentSet, PlaceSet, PlacesSet};
+ghost use Rattle.std.specs.Prelude.{◌≡◌, ◌+◌, ◌<◌, ◌≤◌, length, set, IfSome, IfNone};
+ghost use Rattle.spaces.specs.InsideStream.{BookCopied, PercentSet};
 
 mod numbers;
 mod stream;
 
-pub use numbers::{Number, number_at};
-use rows::{two, wide};
+pub use numbers::number_at;
+use rows::two;
 pub use stream::four;
-use stream::signed;
 
-// What a command took, and the bytes that the book then has.
-#[derive(Clone, Copy)]
-pub struct Next {
-    pub taken: usize,
+// What the calls are lent: the percentage that stands, a packed book in the first bytes of its space, a flow, a table of records, the tables beside a
+// book, and the shelf that a moved book is put on.
+#[derive(Drop)]
+pub struct Spaces {
+    pub percent: u32,
+    pub book: [u8; 2100],
     pub bytes: usize,
+    pub flow: [i32; 256],
+    pub table: [u8; 13312],
+    pub injections: [i32; 128],
+    pub branches: [u32; 1280],
+    pub shelf: [u8; 2100],
+    ghost within: { bytes ≤ 2100 },
 }
 
-// Numbers that no call leaves by itself, so that what it does not write is seen.
-pub fn spoil(
-    book: &mut [u8; 2100],
-    flow: &mut [i32; 256],
-    table: &mut [u8; 13312],
-    injections: &mut [i32; 128],
-    branches: &mut [u32; 1280],
-    shelf: &mut [u8; 2100],
-)
-    ensures { Spoilt book.new flow.new table.new injections.new branches.new shelf.new }
-{
-    *book = [170u8; 2100];
-    *flow = [7777777i32; 256];
-    *table = [170u8; 13312];
-    *injections = [7777777i32; 128];
-    *branches = [7777777u32; 1280];
-    *shelf = [170u8; 2100];
-}
+impl Spaces {
+    ghost use Rattle.spaces.specs.InsideSpaces.{Spoilt, BookSet, PlacesSet, Beside};
 
-pub fn set_book(rest: &[u8], book: &mut [u8], bytes: usize) -> Next
-    requires { bytes ≤ length book.old }
-    ensures { BookSet rest.now book.old bytes book.new result }
-{
-    if rest.len() < 3 {
-        return Next { taken: 0, bytes };
+    // No book yet, and the whole nameplate.
+    pub fn new() -> Spaces {
+        Spaces {
+            percent: 100,
+            book: [0u8; 2100],
+            bytes: 0,
+            flow: [0i32; 256],
+            table: [0u8; 13312],
+            injections: [0i32; 128],
+            branches: [0u32; 1280],
+            shelf: [0u8; 2100],
+        }
     }
-    let count = two(rest, 1);
-    if book.len() < count {
-        return Next { taken: 0, bytes };
+
+    // `P`: numbers that no call leaves by itself, so that what it does not write is seen.
+    pub fn spoil(&mut self)
+        ensures { Spoilt self.old self.new }
+    {
+        self.book = [170u8; 2100];
+        self.bytes = 0;
+        self.flow = [7777777i32; 256];
+        self.table = [170u8; 13312];
+        self.injections = [7777777i32; 128];
+        self.branches = [7777777u32; 1280];
+        self.shelf = [170u8; 2100];
     }
-    if rest.len() < 3 + count {
-        return Next { taken: 0, bytes };
+
+    // `B`.
+    pub fn set_book(&mut self, rest: &[u8]) -> Option<usize>
+        ensures book_set { BookSet rest.now self.old self.new result }
+        ensures upper_bound { IfSome result (λ n. n ≤ length rest.now) }
+    {
+        self.bytes = set_book(rest, &mut self.book)?;
+        Some(3 + self.bytes)
     }
-    for i in 0..count {
-        book[i] = rest[3 + i];
-    }
-    Next {
-        taken: 3 + count,
-        bytes: count,
+
+    // `F`, `T`, `I` and `N`.
+    pub fn set_place(&mut self, letter: u8, rest: &[u8]) -> Option<usize>
+        ensures places_set { PlacesSet letter rest.now self.old self.new result }
+        ensures beside { Beside self.old self.new }
+        ensures upper_bound { IfSome result (λ n. n ≤ length rest.now) }
+    {
+        let size = if letter == b'T' { 4 } else { 7 };
+        if rest.len() < size {
+            return None;
+        }
+        let k = two(rest, 1);
+        match letter {
+            b'F' => set(&mut self.flow, k, four(rest, 3).cast_signed())?,
+            b'T' => set(&mut self.table, k, rest[3])?,
+            b'I' => set(&mut self.injections, k, four(rest, 3).cast_signed())?,
+            b'N' => set(&mut self.branches, k, four(rest, 3))?,
+            _ => return None,
+        }
+        Some(size)
     }
 }
 
 // `Y`. Any byte is taken: the calls refuse what is out of range.
-pub fn set_percent(rest: &[u8], percent: &mut u32) -> usize
+pub fn set_percent(rest: &[u8], percent: &mut u32) -> Option<usize>
     ensures percent_set { PercentSet rest.now percent.old percent.new result }
-    ensures upper_bound { result ≤ length rest.now }
+    ensures upper_bound { IfSome result (λ n. n ≤ length rest.now) }
 {
-    if rest.len() < 2 {
-        return 0;
-    }
-    *percent = wide(rest[1]) as u32;
-    2
+    *percent = u32::from(*rest.get(1)?);
+    Some(2)
 }
 
-fn set_signed(rest: &[u8], space: &mut [i32]) -> usize
-    ensures place_set { PlaceSet 7 (signed_from (four_at rest.now 3)) rest.now space.old space.new result }
-    ensures upper_bound { result ≤ length rest.now }
+// A place that a command names, where its space has it.
+fn set<T: Copy>(space: &mut [T], k: usize, value: T) -> Option<()>
+    ensures some { IfSome result (λ _. (k < length space.old) × (space.new ≡ set space.old k value)) }
+    ensures none { IfNone result ((length space.old ≤ k) × (space.new ≡ space.old)) }
 {
-    if rest.len() < 7 {
-        return 0;
-    }
-    let k = two(rest, 1);
     if space.len() <= k {
-        return 0;
+        return None;
     }
-    space[k] = signed(four(rest, 3));
-    7
+    space[k] = value;
+    Some(())
 }
 
-fn set_number(rest: &[u8], space: &mut [u32]) -> usize
-    ensures place_set { PlaceSet 7 (four_at rest.now 3) rest.now space.old space.new result }
-    ensures upper_bound { result ≤ length rest.now }
+// The bytes that `B` names, put at the start of the book space: how many they are.
+pub fn set_book(rest: &[u8], book: &mut [u8]) -> Option<usize>
+    ensures { BookCopied rest.now book.old book.new result }
 {
-    if rest.len() < 7 {
-        return 0;
+    if rest.len() < 3 {
+        return None;
     }
-    let k = two(rest, 1);
-    if space.len() <= k {
-        return 0;
+    let count = two(rest, 1);
+    if book.len() < count || rest.len() < 3 + count {
+        return None;
     }
-    space[k] = four(rest, 3);
-    7
-}
-
-fn set_byte(rest: &[u8], space: &mut [u8]) -> usize
-    ensures place_set { PlaceSet 4 (nth rest.now 3) rest.now space.old space.new result }
-    ensures upper_bound { result ≤ length rest.now }
-{
-    if rest.len() < 4 {
-        return 0;
-    }
-    let k = two(rest, 1);
-    if space.len() <= k {
-        return 0;
-    }
-    space[k] = rest[3];
-    4
-}
-
-// `F`, `T`, `I` and `N`.
-pub fn set_place(
-    rest: &[u8],
-    letter: u8,
-    flow: &mut [i32],
-    table: &mut [u8],
-    injections: &mut [i32],
-    branches: &mut [u32],
-) -> usize
-    ensures places_set { PlacesSet letter rest.now flow.old table.old injections.old branches.old flow.new table.new injections.new branches.new result }
-    ensures upper_bound { result ≤ length rest.now }
-{
-    if letter == b'F' {
-        return set_signed(rest, flow);
-    }
-    if letter == b'T' {
-        return set_byte(rest, table);
-    }
-    if letter == b'I' {
-        return set_signed(rest, injections);
-    }
-    if letter == b'N' {
-        return set_number(rest, branches);
-    }
-    0
+    book[..count].copy_from_slice(&rest[3..3 + count]);
+    Some(count)
 }

@@ -1,30 +1,21 @@
 // The numbers of a command, each held to the most that it may be before anything is lent.
-ghost use Rattle.std.specs.Prelude.{◌≤◌, length};
-ghost use Rattle.spaces.specs.InsideNumbers.{Asked};
+ghost use Rattle.std.specs.Prelude.{◌≡◌, false, ◌≤◌, length, IfSome, IfNone};
+ghost use Rattle.spaces.specs.InsideNumbers.{good, Asked};
 
 use rows::two;
 
-// A number of two bytes, and the place after it; both are 0 where the command is bad.
-#[derive(Clone, Copy)]
-pub struct Number {
-    pub value: usize,
-    pub end: usize,
-}
-
-// The number at a place of a command: bad where it is above `most`, where the stream ends inside it, and after a bad number, at place 0.
-pub fn number_at(rest: &[u8], at: usize, most: usize) -> Number
+// The number of two bytes at a place of a command: `None` where the stream ends inside it, and where it is above `most`.
+pub fn number_at(rest: &[u8], at: usize, most: usize) -> Option<usize>
     requires { at ≤ length rest.now }
-    ensures { Asked rest.now at most result }
+    ensures some { IfSome result (λ n. Asked rest.now at most n) }
+    ensures none { IfNone result (good rest.now at most ≡ false) }
 {
-    if at == 0 {
-        return Number { value: 0, end: 0 };
-    }
     if rest.len() - at < 2 {
-        return Number { value: 0, end: 0 };
+        return None;
     }
     let value = two(rest, at);
     if most < value {
-        return Number { value: 0, end: 0 };
+        return None;
     }
-    Number { value, end: at + 2 }
+    Some(value)
 }

@@ -1,10 +1,8 @@
--- The command `M`: when it is good, and which registers the readings that stand one after another in it are.
+-- The command `M`: which registers the readings that stand one after another in it are.
 use mathlib.Core.Path.{◌≡◌, refl, sym, ◌∙◌}
-use mathlib.Core.Bool.{true, false}
 use mathlib.Core.List.{List}
 use Prim.Native.Nat.{ℕ, ◌+◌, ◌-◌, ◌*◌, ◌<◌, ◌≤◌}
 use native.Mathlib.Omega.{arith}
-use borrow.Author.Tests.{lt-leb, le-leb}
 use borrow.Rule.Slice.PartMut.{mid_of, mid_len}
 use lib.IntN.{ℤ}
 use lib.ListN.{length, drop, replicate}
@@ -16,35 +14,7 @@ use Rattle.meters.specs.Registers.{Registers, registers}
 use Rattle.meters.specs.Promise.{Metered}
 use Rattle.spaces.specs.InsideStream.{four_at}
 use Rattle.tables.specs.declared.Lists.{Lists}
-use Rattle.tables.specs.Inside.{ListsAsked, registers_in, meters_size, meters_good}
-
--- ---- When it is good.
-pub meters_size_lem : {rest : List ℕ} {l : Lists} → ListsAsked rest l → 7 + 4 * l.fourth ≡ meters_size rest
-meters_size_lem a = omega (arith, a.first_is, a.second_is, a.third_is, a.fourth_is)
-
-module _ (rest : List ℕ) (room : ℕ) where
-  pub meters_short : length rest < 7 → meters_good rest room ≡ false
-  meters_short h = rw (lt-leb 7 (length rest) h) refl
-
-  module _ {n : ℕ} (whole : 7 ≤ length rest) (e : n ≡ nth rest 5) where
-    pub meters_beyond : room < n → meters_good rest room ≡ false
-    meters_beyond h =
-        let w : room < nth rest 5 = omega arith in
-        rw (le-leb 7 (length rest) whole, lt-leb (nth rest 5) room w) refl
-
-    module _ {l : Lists} (fits : n ≤ room) (a : ListsAsked rest l) where
-      in_room : nth rest 5 ≤ room
-      in_room = omega arith
-
-      pub meters_cut : length rest < 7 + 4 * l.fourth → meters_good rest room ≡ false
-      meters_cut h =
-          let w : length rest < meters_size rest = omega (arith, meters_size_lem a) in
-          rw (le-leb 7 (length rest) whole, le-leb (nth rest 5) room in_room, lt-leb (meters_size rest) (length rest) w) refl
-
-      pub meters_fine : 7 + 4 * l.fourth ≤ length rest → meters_good rest room ≡ true
-      meters_fine h =
-          let w : meters_size rest ≤ length rest = omega (arith, meters_size_lem a) in
-          rw (le-leb 7 (length rest) whole, le-leb (nth rest 5) room in_room, le-leb (meters_size rest) (length rest) w) refl
+use Rattle.tables.specs.Inside.{ListsAsked, registers_in}
 
 -- ---- A part of a row that was filled up to a count.
 part_filled : (f : ℕ → ℕ) (count : ℕ) (row : List ℕ) (i n e : ℕ) → e ≡ i + n → e ≤ count → count ≤ length row

@@ -1,37 +1,22 @@
 -- `write` leaves the written book and its length, or nothing changed and the length that there was: both are within the space.
 use native.Mathlib.Omega.{arith}
-use borrow.Rule.Slice.PartMut.{mid_len}
-use Rattle.tables.proofs.Failed.{on_err}
-use Rattle.tables.proofs.LentFromStart.{part_lent, written_into, not_written, written_anyhow}
-use Rattle.tables.proofs.Written.{written}
+use mathlib.Core.Path.{refl}
+use Rattle.std.proofs.lemmas.List.{length-take}
+use Rattle.tables.proofs.Written.{written, written_into}
 use Rattle.tables.proofs.write.Goals as goal
 
 pub bytes_for-requires : goal.bytes_for-requires
-bytes_for-requires g c =
+bytes_for-requires c =
     let w = written c.write_book-answer.ensures c.in-Accepted.is in
     (omega (arith, w.range.few_buses), omega (arith, w.range.few_branches))
 
--- Where the line fails to be written the book stands, with the length that it would have been given.
-pub returns-in_err-answer_line-clause-err : goal.returns-in_err-answer_line-clause-err
-returns-in_err-answer_line-clause-err g c =
+pub returns-in-Accepted : goal.returns-in-Accepted
+returns-in-Accepted c =
     let call = c.write_book-answer in
-    let lent = part_lent c.requires.0 call.auto.out in
-    let part = mid_len 0 c.args.room c.args.book.now c.requires.0 in
-    on_err _ (written_anyhow c.args.bytes call.result lent call.ensures
-    (λ accepted. let w = written call.ensures accepted in omega (arith, w.fits, part, c.requires.0)) c.requires.1)
+    let w = written call.ensures c.in-Accepted.is in
+    written_into _ _ c.in_ok-asked.ensures.some call.auto.out call.ensures (λ _. c.bytes_for.ensures) (λ z. absurd (z c.in-Accepted.is)) (omega (arith, c.bytes_for.ensures, w.fits, length-take c.in_ok-asked.asked.room c.args.book.now))
 
-pub returns-in_default-clause-written : goal.returns-in_default-clause-written
-returns-in_default-clause-written g c =
+pub returns-in_default : goal.returns-in_default
+returns-in_default c =
     let call = c.write_book-answer in
-    let lent = part_lent c.requires.0 call.auto.out in
-    not_written _ call.result lent call.ensures c.in_default.not-Accepted c.requires.1
-
-pub returns-clause-written : goal.returns-clause-written
-returns-clause-written g c =
-    let accepted = c.in-Accepted.is in
-    let call = c.write_book-answer in
-    let w = written call.ensures accepted in
-    let lent = part_lent c.requires.0 call.auto.out in
-    let part = mid_len 0 c.args.room c.args.book.now c.requires.0 in
-    let bytes = c.bytes_for.ensures in
-    written_into _ call.result lent call.ensures accepted bytes (omega (arith, w.fits, part, c.requires.0, bytes))
+    written_into _ _ c.in_ok-asked.ensures.some call.auto.out call.ensures (λ e. absurd (c.in_default.not-Accepted e)) (λ _. refl) c.requires.1
