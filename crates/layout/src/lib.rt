@@ -9,7 +9,7 @@ ghost use Rattle.bits.specs.Fields.{place, puts};
 ghost use Rattle.layout.specs.Form.{in_new, form_of, form_bit, branch_widths, branch_values};
 ghost use Rattle.layout.specs.Layout.{head_widths, bus_widths, bus_start, status_bit, bits_for, bytes_for};
 ghost use Rattle.layout.specs.Layout.{bus_at, branch_after};
-ghost use Rattle.layout.specs.Inside.{Asked, Tells};
+ghost use Rattle.rows.specs.Inside.{Asked, Tells};
 ghost use Rattle.layout.specs.Inside.{CountedIn, HeadRead, Numbered, Numbers, Wide, Placed, head_fields, bus_from, bus_fields};
 ghost use Rattle.layout.specs.Check.{outside, balances};
 

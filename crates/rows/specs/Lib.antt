@@ -1,3 +1,4 @@
 pub mod Row
 pub mod Sum
 pub mod Bit
+pub mod Inside

@@ -2,22 +2,17 @@
 // What is public here serves the calls alone, which meet what it requires.
 #![tactic(auto)]
 
-ghost use Rattle.std.specs.Prelude.{◌≡◌, ◌*◌, ◌≤◌, length};
+ghost use Rattle.std.specs.Prelude.{◌≡◌, ◌+◌, ◌*◌, ◌<◌, ◌≤◌, length};
 ghost use Rattle.state.specs.Inside.{Listing};
 ghost use Rattle.shortlist.specs.Inside.{listed_if, listed_at};
 
 // On the shortlist: out of service, touched, or by its record as it was lent.
+#[tactic(auto, unfolding(crate::specs::Inside::listed_if))]
 fn is_listed(rec: &[u8], serving: bool, touched: [u8; 32], k: usize) -> bool
     requires { length rec.now ≡ 52 }
     ensures { result ≡ listed_if serving touched rec.now k }
 {
-    if !serving {
-        return true;
-    }
-    if bits::is_set(&touched, k) {
-        return true;
-    }
-    record::is_listed(rec, touched)
+    !serving || bits::is_set(&touched, k) || record::is_listed(rec, touched)
 }
 
 // The bits of the shortlist, from the table as it was lent.
@@ -25,13 +20,10 @@ pub fn shortlist(table: &[u8], branches: usize, served: [bool; 256], touched: [u
     requires { (branches ≤ 256) × (52 * branches ≤ length table.now) }
     ensures { Listing branches (listed_at served touched table.now) result }
 {
-    let mut row = [0u8; 32];
-    let mut k: usize = 0;
-    while k < branches {
-        if is_listed(record::stretch(table, k), served[k], touched, k) {
-            bits::set_bit(&mut row, k, 1);
-        }
-        k += 1;
-    }
-    row
+    bits::marked(branches, |k| -> bool
+        requires { (k < 256) × (52 * k + 52 ≤ length table.now) }
+        ensures { result ≡ listed_at served touched table.entry.now k }
+    {
+        is_listed(record::stretch(table, k), served[k], touched, k)
+    })
 }

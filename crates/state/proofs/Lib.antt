@@ -10,4 +10,3 @@ pub mod Status
 pub mod OneOverload
 pub mod Checked
 pub mod Surveying
-pub mod Noting

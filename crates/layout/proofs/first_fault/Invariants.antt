@@ -1,7 +1,7 @@
 -- `first_fault` gives the first fault of its items.
 use Prim.Native.Nat.{ℕ}
 use Rattle.layout.specs.Fault.{field_at}
-use Rattle.layout.specs.Inside.{Tells}
+use Rattle.rows.specs.Inside.{Tells}
 use Rattle.layout.proofs.FirstFault.{Scanned}
 use Rattle.layout.proofs.first_fault.Given as goal
 

@@ -1,7 +1,7 @@
 -- `is_balanced` is true exactly where what enters is what leaves.
 use Prim.Native.Nat.{ℕ}
 use Rattle.std.specs.Prelude.{ℤ}
-use Rattle.layout.specs.Inside.{Tells}
+use Rattle.rows.specs.Inside.{Tells}
 use Rattle.layout.proofs.Balanced.{InRoom, Tallied}
 use Rattle.layout.proofs.is_balanced.Given as goal
 
