@@ -1,15 +1,12 @@
 -- The two tests together say whether a lent flow fits.
-use mathlib.Core.Path.{◌≡◌, sym, ◌∙◌, subst}
-use mathlib.Core.Bool.{true, false, true≢false}
+use mathlib.Core.Path.{◌≡◌, refl, sym, ap, ◌∙◌, subst}
+use mathlib.Core.Bool.{Bool, true, false, false≢true}
 use mathlib.Core.List.{List}
 use Prim.Native.Nat.{ℕ, ◌<◌, ◌≤◌}
 use native.Mathlib.Omega.{arith}
-use borrow.Author.Tests.{eqb-true, eq-eqb}
-use lib.Dec.{eqb}
 use lib.IntN.{ℤ}
 use lib.ListN.{length}
-use Rattle.rows.specs.Row.{nth, every}
-use Rattle.rows.proofs.Row.{every_at, every_from}
+use Rattle.rows.specs.Row.{nth}
 use Rattle.grid.proofs.Flow.{Balanced}
 use Rattle.search.specs.declared.Wires.{Wires}
 use Rattle.reroute.specs.InsideMoves.{network, carried}
@@ -18,7 +15,11 @@ use Rattle.verdict.specs.Case.{on}
 use Rattle.verdict.proofs.Plain.{flow_of}
 use Rattle.verdict.proofs.Alike.{SameFlow, balanced_alike}
 use Rattle.fit.specs.Inside.{Left, Talliable, Tallied, Lendable, Fitted}
-use Rattle.fit.proofs.Measuring.{the_same}
+use Rattle.std.proofs.lemmas.Option.{same_Some}
+use Rattle.std.proofs.lemmas.List.{ext_get_or}
+use Rattle.std.specs.Bool.{Decides, then_some}
+use lib.ListN.{take}
+use lib.Seq.{get_or-take, length-take-le}
 use Rattle.std.specs.Prelude.{None, Some}
 
 module _ (W : Wires) (flow : List ℤ) (live gain load : List ℕ) where
@@ -53,18 +54,30 @@ module _ (W : Wires) (flow : List ℤ) (live gain load : List ℕ) where
     from_balance : Balanced (network W (nth live) (nth gain) (nth load)) (carried (nth live) x.ahead) (λ i. 0) (λ i. 0) → (i : ℕ) → i < W.buses → nth comes i ≡ nth goes i
     from_balance B i u = omega (arith, B.bus i u, cs.sums i (at_bus i u), gs.sums i (at_bus i u))
 
-    pub fit_in : every W.buses (λ i. eqb (nth comes i) (nth goes i)) ≡ true → Fitted W flow live gain load (Some x)
+    fit_in : ((i : ℕ) → i < W.buses → nth comes i ≡ nth goes i) → Fitted W flow live gain load (Some x)
     fit_in e = record {
-      left = λ lat q. subst (Left W.branches flow live) (the_same q) l;
+      left = λ lat q. subst (Left W.branches flow live) (same_Some x lat q) l;
       balances = λ lat q. balanced_alike (network W (nth live) (nth gain) (nth load)) (carried (nth live) x.ahead) (flow_of (on flow)) (λ i. 0) (λ i. 0) same
-          (to_balance (λ i u. eqb-true _ _ (every_at (λ i. eqb (nth comes i) (nth goes i)) W.buses e i u)));
+          (to_balance e);
       unfit = λ q. cc;
     }
 
-    pub fit_not : every W.buses (λ i. eqb (nth comes i) (nth goes i)) ≡ false → Fitted W flow live gain load None
-    fit_not e = record {
+    fit_not : (((i : ℕ) → i < W.buses → nth comes i ≡ nth goes i) → ⊥) → Fitted W flow live gain load None
+    fit_not n = record {
       left = λ lat q. cc;
       balances = λ lat q. cc;
-      unfit = λ q h B. true≢false (sym (every_from (λ i. eqb (nth comes i) (nth goes i)) W.buses
-          (λ i u. eq-eqb _ _ (from_balance (balanced_alike (network W (nth live) (nth gain) (nth load)) (flow_of (on flow)) (carried (nth live) x.ahead) (λ i. 0) (λ i. 0) back B) i u))) ∙ e);
+      unfit = λ q h B. n
+          (from_balance (balanced_alike (network W (nth live) (nth gain) (nth load)) (flow_of (on flow)) (carried (nth live) x.ahead) (λ i. 0) (λ i. 0) back B));
     }
+
+    -- The answer by the test of the two rows.
+    pub fit_by : length comes ≡ 128 → length goes ≡ 128 → (t : Bool) → Decides t (take W.buses comes ≡ take W.buses goes) → Fitted W flow live gain load (then_some t x)
+    fit_by a b true d =
+        let e = d.0 refl in
+        fit_in (λ i u. sym (get_or-take W.buses comes i 0 u) ∙ ap (λ (r : List ℕ). nth r i) e ∙ get_or-take W.buses goes i 0 u)
+    fit_by a b false d =
+        fit_not (λ h. false≢true (d.1 (ext_get_or 0 (take W.buses comes) (take W.buses goes) (long comes a ∙ sym (long goes b))
+        (λ i u. let v : i < W.buses = omega (arith, long comes a) in get_or-take W.buses comes i 0 v ∙ h i v ∙ sym (get_or-take W.buses goes i 0 v)))))
+      where
+        long : (r : List ℕ) → length r ≡ 128 → length (take W.buses r) ≡ W.buses
+        long r z = length-take-le W.buses r (omega (arith, p.wired.few))

@@ -75,6 +75,3 @@ module _ (n : ℕ) (one x other y start : List ℕ) where
         };
         low = λ i v. omega (arith, at₁ i, at₂ i, t.low i v, pick_part (eqb (nth one k) i) (nth x k), pick_part (eqb (nth other k) i) (nth y k), a.small k u);
       }
-
-  pub tallying_all : {sums : List ℕ} {k : ℕ} → Tallying sums k → k ≡ n → Tallied n one x other y start sums
-  tallying_all {sums} {k} t e = rw e at t.so_far

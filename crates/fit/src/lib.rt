@@ -15,8 +15,7 @@ fn latents(flow: &[i32], branches: usize, live: [u32; 256]) -> Option<Latent>
 {
     let mut ahead = [0u32; 256];
     let mut back = [0u32; 256];
-    let mut k: usize = 0;
-    while k < branches {
+    for k in 0..branches {
         let up = quantity::above(flow[k]);
         let down = quantity::below(flow[k]);
         let limit = live[k];
@@ -25,47 +24,27 @@ fn latents(flow: &[i32], branches: usize, live: [u32; 256]) -> Option<Latent>
         }
         ahead[k] = limit + down - up;
         back[k] = limit + up - down;
-        k += 1;
     }
     Some(Latent { ahead, back })
 }
 
-// What each bus has at the start, with x of every branch at its one end and y at its other.
+// What each bus had, with x of every branch at its one end and y at its other.
 fn tally(
     branches: usize,
     one: [u8; 256],
     x: [u32; 256],
     other: [u8; 256],
     y: [u32; 256],
-    start: [u32; 128],
+    mut sums: [u32; 128],
 ) -> [u32; 128]
-    requires { Talliable branches one x other y start }
-    ensures { Tallied branches one x other y start result }
+    requires { Talliable branches one x other y sums }
+    ensures { Tallied branches one x other y sums result }
 {
-    let mut sums = start;
-    let mut k: usize = 0;
-    while k < branches {
-        let i = one[k] as usize;
-        sums[i] += x[k];
-        let j = other[k] as usize;
-        sums[j] += y[k];
-        k += 1;
+    for k in 0..branches {
+        sums[one[k] as usize] += x[k];
+        sums[other[k] as usize] += y[k];
     }
     sums
-}
-
-fn same_rows(n: usize, one: [u32; 128], two: [u32; 128]) -> bool
-    requires { n ≤ 128 }
-    ensures { result ≡ every n (λ i. eqb (nth one i) (nth two i)) }
-{
-    let mut i: usize = 0;
-    while i < n {
-        if one[i] != two[i] {
-            return false;
-        }
-        i += 1;
-    }
-    true
 }
 
 // The latent capacities that a lent flow leaves, if it fits. Counted as if every branch carried its limit ahead and its latent capacity back: the
@@ -81,13 +60,8 @@ pub fn test(
     ensures { Fitted wires flow.now live gain load result }
 {
     let latent = latents(flow, wires.branches, live)?;
-    let ahead = latent.ahead;
-    let first = wires.first;
-    let second = wires.second;
-    let comes = tally(wires.branches, second, live, first, ahead, gain);
-    let goes = tally(wires.branches, first, live, second, ahead, load);
-    if !same_rows(wires.buses, comes, goes) {
-        return None;
-    }
-    Some(latent)
+    let n = wires.branches;
+    let comes = tally(n, wires.second, live, wires.first, latent.ahead, gain);
+    let goes = tally(n, wires.first, live, wires.second, latent.ahead, load);
+    (comes[..wires.buses] == goes[..wires.buses]).then_some(latent)
 }

@@ -1,25 +1,25 @@
 -- One unit that is left at a bus and wanted at another stays exactly if no path of open branches leads there; with one branch shut; and the scan for
 -- a branch that leaves a group.
 use mathlib.Core.Path.{◌≡◌, refl, sym, ap, subst, ◌∙◌, fun_ext}
-use mathlib.Core.Bool.{Bool, beq, true, false, not, ◌&&◌, cond}
+use mathlib.Core.Bool.{Bool, true, false, cond}
 use mathlib.Core.List.{List}
-use Prim.Native.Nat.{ℕ, ◌+◌, ◌≤◌, ◌<◌}
+use Prim.Native.Nat.{ℕ, zero, suc, ◌≤◌, ◌<◌}
 use native.Mathlib.Omega.{arith}
-use native.Mathlib.Decide.{ℕ_discrete}
 use borrow.Author.Tests.{ltb-true, ltb-false, eqb-true, eqb-false}
 use lib.Dec.{eqb, ltb}
 use lib.ListN.{length, get_or, set}
-use lib.Seq.{get_or-set_same, get_or-set_other}
+use Rattle.std.proofs.lemmas.List.FromFn.{length-range_with_len, get_or-range_with_len}
+use Rattle.std.specs.Bool.{MatchBool}
+use Rattle.std.specs.List.{AllWithin, HoldsAt, range_with_len}
 use Rattle.rows.specs.Row.{nth, some}
 use Rattle.rows.specs.Bit.{has}
 use Rattle.rows.specs.Sum.{Group, differ, pick}
-use Rattle.rows.proofs.Row.{some_none, some_more, some_at}
+use Rattle.rows.proofs.Row.{some_at}
 use Rattle.rows.proofs.Sum.{over_same, over_term, over_zero, pick_part}
 use Rattle.grid.specs.Reach.{OnIsland}
 use Rattle.grid.proofs.Net.{Net, crosses, gains, loads, ratings}
 use Rattle.grid.proofs.Excess.{Smallest}
 use Rattle.grid.proofs.Islands.{island_within, together, together_sound, together_self, together_whole}
-use Rattle.search.specs.InsideLinks.{Linked}
 use Rattle.search.specs.declared.Wires.{Wires}
 use Rattle.search.specs.declared.Latent.{Latent}
 use Rattle.reroute.specs.InsideMoves.{network, Reroutes}
@@ -28,7 +28,7 @@ use Rattle.reroute.specs.Inside.{rest_between}
 use Rattle.reroute.specs.declared.Moved.{Moved}
 use Rattle.reroute.proofs.OnePlace.{set_zero}
 use Rattle.reroute.proofs.Delivering.{surplus_of, deficit_of}
-use Rattle.island.specs.Inside.{opened, Openable, Apart, Leading, Joining, leaves_at}
+use Rattle.island.specs.Inside.{opened, Openable, Apart, Leading, Joining}
 
 -- ---- One unit left at u and wanted at v.
 abbrev both : List ℕ → Latent
@@ -131,14 +131,6 @@ shut_opened ways k l = fun_ext (λ j. ap (ltb 0) (set_zero ways k j l) ∙ one (
     one true x = refl
     one false x = refl
 
--- Any small number in its place keeps the ways small.
-pub set_small : {W : Wires} {ways : List ℕ} {k x : ℕ} → Openable W ways → k < length ways → x ≤ 1000000 → Openable W (set ways k x)
-set_small {W} {ways} {k} {x} o l h = record { linked = o.linked; small = λ j u. at j u (ℕ_discrete j k) }
-  where
-    at : (j : ℕ) → j < W.branches → Dec (j ≡ k) → nth (set ways k x) j ≤ 1000000
-    at j u (yes e) = rw (e, get_or-set_same ways k x 0 l) h
-    at j u (no n) = rw (get_or-set_other ways k j x 0 n) (o.small j u)
-
 module _ {W : Wires} {ways : List ℕ} {k : ℕ} (o : Openable W ways) (l : k < W.branches) (long : length ways ≡ 256) where
   in_row : k < length ways
   in_row = omega (arith, o.linked.wired.size)
@@ -153,45 +145,27 @@ module _ {W : Wires} {ways : List ℕ} {k : ℕ} (o : Openable W ways) (l : k < 
       others = shut_opened ways k in_row
 
 -- ---- The scan for a branch that leaves the group.
--- A truth value that is t where s holds, and else s, is both.
-pub counted : (s t : Bool) {x : Bool} → s ≡ true → x ≡ t → x ≡ s && t
-counted s t e h = rw e h
+-- What `any` answers over the numbers below n.
+module _ (p : ℕ → Bool) where
+  none_below : (n : ℕ) → ((k : ℕ) → k < n → p k ≡ false) → some n p ≡ false
+  unfolding some
+  none_below zero h = refl
+  none_below (suc n) h = rw (none_below n (λ k l. h k (omega arith)), h n (omega arith)) refl
 
-pub uncounted : (s t : Bool) {x : Bool} → s ≡ false → x ≡ s → x ≡ s && t
-uncounted s t e h = rw e (h ∙ e)
+  at_place : (n k : ℕ) → k < n → get_or (range_with_len 0 n) k 0 ≡ k
+  at_place n k h = omega (arith, get_or-range_with_len 0 n k 0 h)
 
--- None of the first j does.
-pub record Scanned (W : Wires) (served : List Bool) (k : ℕ) (group : List ℕ) (j : ℕ) : Type 0 where
-  pub linked : Linked W
-  pub upto : j ≤ W.branches
-  pub none : some j (leaves_at W served k group) ≡ false
+  abbrev pub Yes : ℕ → Type 0
+  Yes j = p j ≡ true
 
-module _ {W : Wires} {served : List Bool} {k : ℕ} {group : List ℕ} where
-  pub scanned_none : Linked W → Scanned W served k group 0
-  scanned_none l = record { linked = l; upto = omega arith; none = some_none _ }
+  abbrev pub No : ℕ → Type 0
+  No j = p j ≡ false
 
-  -- What is told of branch j.
-  module _ {j : ℕ} (s : Scanned W served k group j) (u : j < W.branches) {counts r : Bool} (e : counts ≡ get_or served j false && not (eqb j k))
-      (h : r ≡ counts && differ (has group (nth W.first j)) (has group (nth W.second j))) where
-    leaves_is : r ≡ leaves_at W served k group j
-    unfolding leaves_at
-    leaves_is = h ∙ ap (λ (t : Bool). t && differ (has group (nth W.first j)) (has group (nth W.second j))) e
-
-    pub scanned_more : r ≡ false → Scanned W served k group (j + 1)
-    scanned_more q = record { linked = s.linked; upto = omega arith; none = some_more (leaves_at W served k group) j s.none (sym leaves_is ∙ q) }
-
-    pub scanned_found : r ≡ true → true ≡ some W.branches (leaves_at W served k group)
-    scanned_found q = sym (some_at (leaves_at W served k group) W.branches j u (sym leaves_is ∙ q))
-
-  pub scanned_all : {j : ℕ} → Scanned W served k group j → j ≡ W.branches → false ≡ some W.branches (leaves_at W served k group)
-  scanned_all {j} s e = sym (rw e at s.none)
-
--- Two bits compared, of a branch that counts.
-pub differs : {t a b x y : Bool} → t ≡ true → x ≡ a → y ≡ b → not (beq x y) ≡ t && differ a b
-differs {t} {a} {b} {x} {y} e p q = rw (e, p, q) (go a b)
-  where
-    go : (s t : Bool) → not (beq s t) ≡ differ s t
-    go true true = refl
-    go true false = refl
-    go false true = refl
-    go false false = refl
+  pub by_any : (n : ℕ) (r : Bool)
+      → MatchBool r ((k : ℕ) × (k < length (range_with_len 0 n)) × HoldsAt Yes (range_with_len 0 n) k) (AllWithin No (range_with_len 0 n) 0 (length (range_with_len 0 n)))
+      → r ≡ some n p
+  by_any n true (k, h, f) =
+      let u : k < n = omega (arith, length-range_with_len 0 n) in
+      sym (some_at p n k u (rw (at_place n k u) at (f 0)))
+  by_any n false f =
+      sym (none_below n (λ k l. rw (at_place n k l) at (f k 0 (omega arith) (omega (arith, length-range_with_len 0 n)))))

@@ -2,10 +2,8 @@
 // A branch is open where its number in the row `ways` is above 0. What is public here serves the crates above alone, which meet what it requires.
 #![tactic(auto)]
 
-ghost use Rattle.std.specs.Prelude.{◌≡◌, ◌&&◌, ◌<◌};
+ghost use Rattle.std.specs.Prelude.{◌≡◌, ◌<◌};
 ghost use Rattle.rows.specs.Row.{nth, some};
-ghost use Rattle.rows.specs.Bit.{has};
-ghost use Rattle.rows.specs.Sum.{differ};
 ghost use Rattle.search.specs.InsideLinks.{Linked};
 ghost use Rattle.island.specs.Inside.{Openable, Apart, Leading, Joining, leaves_at};
 
@@ -38,14 +36,16 @@ pub fn joined(wires: Wires, mut ways: [u32; 256], k: usize) -> bool
     )
 }
 
-// Whether a branch counts, and exactly one of its ends a and b is in the group.
-fn departs(counts: bool, group: [u8; 16], a: usize, b: usize) -> bool
-    ensures { result ≡ counts && differ (has group a) (has group b) }
+// Whether branch j is in service, isn't k, and has exactly one end in the group.
+#[tactic(auto, unfolding(crate::specs::Inside::leaves_at))]
+fn departs(wires: &Wires, served: &[bool; 256], k: usize, group: &[u8; 16], j: usize) -> bool
+    requires { Linked wires.now × (j < wires.now.branches) }
+    ensures { result ≡ leaves_at wires.now served.now k group.now j }
 {
-    if !counts {
+    if !served[j] || j == k {
         return false;
     }
-    bits::is_set(&group, a) != bits::is_set(&group, b)
+    bits::is_set(group, wires.first[j] as usize) != bits::is_set(group, wires.second[j] as usize)
 }
 
 // Whether a branch in service other than k has exactly one end in the group.
@@ -53,15 +53,5 @@ pub fn leaves(wires: Wires, served: [bool; 256], k: usize, group: [u8; 16]) -> b
     requires { Linked wires }
     ensures { result ≡ some wires.branches (leaves_at wires served k group) }
 {
-    let mut j: usize = 0;
-    while j < wires.branches {
-        let counts = served[j] && j != k;
-        let a = wires.first[j] as usize;
-        let b = wires.second[j] as usize;
-        if departs(counts, group, a, b) {
-            return true;
-        }
-        j += 1;
-    }
-    false
+    (0..wires.branches).any(|j| departs(&wires, &served, k, &group, j))
 }

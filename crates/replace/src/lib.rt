@@ -14,13 +14,11 @@ fn chosen(branches: usize, named: [u8; 32], inside: Latent, mut outside: Latent)
     requires { branches ≤ 256 }
     ensures { Chosen branches named inside outside result }
 {
-    let mut k: usize = 0;
-    while k < branches {
+    for k in 0..branches {
         if bits::is_set(&named, k) {
             outside.ahead[k] = inside.ahead[k];
             outside.back[k] = inside.back[k];
         }
-        k += 1;
     }
     outside
 }
@@ -51,9 +49,8 @@ pub fn replace(
     let within = chosen(wires.branches, named, cut, none);
     let moved = reroute::reroute(wires, within, rest);
     if moved.left == 0 {
-        let taken = moved.latent;
         return Judgement {
-            latent: chosen(wires.branches, named, taken, cut),
+            latent: chosen(wires.branches, named, moved.latent, cut),
             short: None,
         };
     }

@@ -1,12 +1,8 @@
 -- `with_bit` changes one bit of a byte, and no step of it wraps.
 use borrow.Author.Rules.{rules}
-use native.Mathlib.Omega.{arith}
 use mathlib.Core.Path.{◌∙◌}
 use Rattle.bits.proofs.Low.{shifted, with_bit_low, set_low_lt}
 use Rattle.bits.proofs.with_bit.Goals as goal
-
-pub overflow_sub-result : goal.overflow_sub-result
-overflow_sub-result c = (shifted c.args.x c.args.k 0 (search rules) (omega arith)).0
 
 pub overflow_add-result : goal.overflow_add-result
 overflow_add-result c =

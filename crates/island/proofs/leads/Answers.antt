@@ -5,9 +5,6 @@ use Rattle.reroute.proofs.Delivering.{between_ready}
 use Rattle.island.proofs.Ways.{unit_ready, leading}
 use Rattle.island.proofs.leads.Goals as goal
 
-pub between-requires : goal.between-requires
-between-requires c = let w = c.requires.0.linked.wired in (omega (arith, w.few, c.requires.1.from_in), omega (arith, w.few, c.requires.1.to_in))
-
 pub reroute-moved-requires : goal.reroute-moved-requires
 reroute-moved-requires c = rw c.between.ensures (between_ready (unit_ready _ _ _ _ c.requires.0 c.requires.1) 1 (omega arith))
 
