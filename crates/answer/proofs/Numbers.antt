@@ -1,97 +1,85 @@
--- Which numbers a chain of refusals may give, and that a place goes with 4 and 5 alone; so it says what the papers say of its number.
+-- Which numbers a chain of refusals may give; so it says what the papers say of its number, and a place goes with 4 and 5 alone.
 use mathlib.Core.Path.{◌≡◌, refl, sym, ap, ◌∙◌}
-use mathlib.Core.Bool.{Bool, true, false, not, ◌||◌, ◌&&◌, true≢false}
+use mathlib.Core.Bool.{Bool, true, false, ◌||◌, ◌&&◌, true≢false}
 use mathlib.Core.List.{List, [], ◌∷◌}
 use Prim.Native.Nat.{ℕ}
-use borrow.Author.Tests.{eqb-true, not-true}
+use native.Mathlib.Omega.{arith}
+use borrow.Author.Tests.{eqb-true}
 use lib.Dec.{eqb}
 use Rattle.rows.specs.Row.{member}
 use Rattle.rows.proofs.Row.{both_true}
+use Rattle.std.specs.Prelude.{Option, Some, None, Ok, Err, is_some}
 use Rattle.answer.specs.declared.Place.{Place}
-use Rattle.answer.specs.declared.Place.TheVariants.{Nowhere, At}
-use Rattle.answer.specs.declared.Outcome.{Outcome}
-use Rattle.answer.specs.declared.Outcome.TheVariants.{Accepted, Refused, Overloaded}
-use Rattle.answer.specs.declared.Answer.{Answer}
-use Rattle.answer.specs.Answer.{number_of, place_of, has_place, placed, SaidBy, bare, refuse_if, refuse_at, and_then}
-use Rattle.answer.proofs.Said.{said_accepted, said_at, said_same}
+use Rattle.answer.specs.declared.Refusal.{Refusal}
+use Rattle.answer.specs.declared.Refusal.TheVariants.{BusWrong, BranchWrong}
+use Rattle.answer.specs.Answer.{Answer, Nowhere, number, place, number_of, place_of, placed, SaidBy, refuse_if, refuse_at, and_then}
+use Rattle.answer.proofs.Said.{said_accepted, said_refused, said_same}
 
--- Accepted, or refused by one of these numbers, with a place exactly if it is one of those that carry one.
-abbrev pub Gives : List ℕ → Outcome → Type 0
-Gives ns Accepted = Unit
-Gives ns (Refused why) = (member why.number ns ≡ true) × (has_place why.place ≡ member why.number placed)
-Gives ns (Overloaded kw) = ⊥
+-- A refusal has a place exactly if its number is 4 or 5, and no refusal has the number 0.
+pub place_where : (why : Refusal) → is_some (place why) ≡ member (number why) placed
+unfolding member
+place_where (BusWrong at) = refl
+place_where why = refl
 
--- One of these numbers, and none or one of those that carry a place.
-abbrev pub plain : ℕ → List ℕ → Bool
-plain n ns = member n ns && not (member n placed)
+pub proper : (why : Refusal) → number why ≡ 0 → ⊥
+proper (BusWrong at) e = absurd (omega arith)
+proper why e = absurd (omega arith)
 
-abbrev pub placing : ℕ → List ℕ → Bool
-placing n ns = member n ns && member n placed
+-- Accepted, or refused by one of these numbers.
+abbrev pub Gives : List ℕ → Answer → Type 0
+Gives ns (Ok _) = Unit
+Gives ns (Err why) = member (number why) ns ≡ true
 
 module _ (ns : List ℕ) where
-  pub gives_if : (t : Bool) (n : ℕ) (next : Outcome) → plain n ns ≡ true → Gives ns next → Gives ns (refuse_if t n next)
-  gives_if true n next h g = let p = both_true (member n ns) (not (member n placed)) h in (p.0, sym (not-true (member n placed) p.1))
-  gives_if false n next h g = g
+  pub gives_if : (t : Bool) (why : Refusal) (next : Answer) → member (number why) ns ≡ true → Gives ns next → Gives ns (refuse_if t why next)
+  gives_if true why next h g = h
+  gives_if false why next h g = g
 
-  pub gives_at : (w : Place) (n : ℕ) (next : Outcome) → placing n ns ≡ true → Gives ns next → Gives ns (refuse_at w n next)
-  gives_at Nowhere n next h g = g
-  gives_at (At i j) n next h g = let p = both_true (member n ns) (member n placed) h in (p.0, sym p.1)
+  pub gives_at : (w : Option Place) (why : Place → Refusal) (next : Answer) → ((at : Place) → member (number (why at)) ns ≡ true) → Gives ns next → Gives ns (refuse_at w why next)
+  gives_at None why next h g = g
+  gives_at (Some at) why next h g = h at
 
-  pub gives_then : (o next : Outcome) → Gives ns o → Gives ns next → Gives ns (and_then o next)
-  gives_then Accepted next h g = g
-  gives_then (Refused why) next h g = h
-  gives_then (Overloaded kw) next h g = h
+  pub gives_then : (o next : Answer) → Gives ns o → Gives ns next → Gives ns (and_then o next)
+  gives_then (Ok _) next h g = g
+  gives_then (Err why) next h g = h
 
   not_member : (n m : ℕ) → member n ns ≡ true → member m ns ≡ false → n ≡ m → ⊥
   not_member n m h l e = true≢false (sym h ∙ ap (λ (x : ℕ). member x ns) e ∙ l)
 
   -- Its number is one of these, or 0.
-  pub gives_number : (o : Outcome) → Gives ns o → member (number_of o) (0 ∷ ns) ≡ true
+  pub gives_number : (o : Answer) → Gives ns o → member (number_of o) (0 ∷ ns) ≡ true
   unfolding member
-  gives_number Accepted g = refl
-  gives_number (Refused why) g = rw g.0 (or_true (eqb why.number 0))
+  gives_number (Ok _) g = refl
+  gives_number (Err why) g = rw g (or_true (eqb (number why) 0))
     where
       or_true : (t : Bool) → (t || true) ≡ true
       or_true true = refl
       or_true false = refl
-  gives_number (Overloaded _) g = elim g [ ]
 
-  pub gives_not : (o : Outcome) (n : ℕ) → Gives ns o → member n ns ≡ false → (n ≡ 0 → ⊥) → number_of o ≡ n → ⊥
-  gives_not Accepted n g h z e = z (sym e)
-  gives_not (Refused why) n g h z e = not_member why.number n g.0 h e
-  gives_not (Overloaded _) n g h z e = elim g [ ]
-
-  -- It has a place exactly if its number is 4 or 5.
-  pub gives_place : (o : Outcome) → Gives ns o → has_place (place_of o) ≡ member (number_of o) placed
-  unfolding member
-  gives_place Accepted g = refl
-  gives_place (Refused why) g = g.1
-  gives_place (Overloaded _) g = elim g [ ]
+  pub gives_not : (o : Answer) (n : ℕ) → Gives ns o → member n ns ≡ false → (n ≡ 0 → ⊥) → number_of o ≡ n → ⊥
+  gives_not (Ok _) n g h z e = z (sym e)
+  gives_not (Err why) n g h z e = not_member (number why) n g h e
 
   -- Without 4 and 5 among these it has none.
-  pub gives_nowhere : (o : Outcome) → member 4 ns ≡ false → member 5 ns ≡ false → Gives ns o → place_of o ≡ Nowhere
-  unfolding member
-  gives_nowhere Accepted four five g = refl
-  gives_nowhere (Refused why) four five g = go why.place g.1
-    where
-      neither : (a b : Bool) → eqb why.number 4 ≡ a → eqb why.number 5 ≡ b → a || (b || false) ≡ true → ⊥
-      neither true b p q e = not_member why.number 4 g.0 four (eqb-true _ 4 p)
-      neither false true p q e = not_member why.number 5 g.0 five (eqb-true _ 5 q)
-      neither false false p q e = true≢false (sym e)
-
-      go : (w : Place) → has_place w ≡ member why.number placed → w ≡ Nowhere
-      go Nowhere e = refl
-      go (At i j) e = absurd (neither (eqb why.number 4) (eqb why.number 5) refl refl (sym e))
-  gives_nowhere (Overloaded _) four five g = elim g [ ]
+  pub gives_nowhere : (o : Answer) → member 4 ns ≡ false → member 5 ns ≡ false → Gives ns o → place_of o ≡ Nowhere
+  gives_nowhere (Ok _) four five g = refl
+  gives_nowhere (Err (BusWrong at)) four five g = absurd (true≢false (sym g ∙ four))
+  gives_nowhere (Err (BranchWrong at)) four five g = absurd (true≢false (sym g ∙ five))
+  gives_nowhere (Err why) four five g = refl
 
   -- All but 12 carry shortage 0 and an empty group.
-  pub gives_said : (o : Outcome) → member 0 ns ≡ false → member 12 ns ≡ false → Gives ns o → {r : Answer} → r ≡ bare o → SaidBy o r
-  gives_said Accepted z t g e = rw e said_accepted
-  gives_said (Refused why) z t g e = rw e (said_at why.number why.place (not_member _ 0 g.0 z) (not_member _ 12 g.0 t))
-  gives_said (Overloaded _) z t g {r = r} e = elim g [ ]
+  pub gives_said : (o : Answer) → member 12 ns ≡ false → Gives ns o → {r : Answer} → r ≡ o → SaidBy o r
+  gives_said (Ok _) t g e = rw e said_accepted
+  gives_said (Err why) t g e = rw e (said_refused why (not_member _ 12 g t))
 
-  pub said_is : (o : Outcome) → member 0 ns ≡ false → member 12 ns ≡ false → Gives ns o → {r : Answer} → SaidBy o r → r ≡ bare o
-  said_is o z t g s = said_same s (gives_said o z t g refl)
+  pub said_is : (o : Answer) → member 12 ns ≡ false → Gives ns o → {r : Answer} → SaidBy o r → r ≡ o
+  said_is o t g s = said_same s (gives_said o t g refl)
+
+-- Any answer has a place exactly if its number is 4 or 5.
+pub gives_place : (o : Answer) → is_some (place_of o) ≡ member (number_of o) placed
+unfolding member
+gives_place (Ok _) = refl
+gives_place (Err why) = place_where why
 
 -- A longer list of numbers.
 unfoldable pub inside : List ℕ → List ℕ → Bool
@@ -107,7 +95,6 @@ more (x ∷ xs) ms n h e = go (eqb n x) refl (λ q. more xs ms n (both_true (mem
     go true q rest = rw (eqb-true n x q) (both_true (member x ms) (inside xs ms) h).0
     go false q rest = rest (sym (ap (λ (t : Bool). t || member n xs) q) ∙ e)
 
-pub gives_more : (ns ms : List ℕ) (o : Outcome) → inside ns ms ≡ true → Gives ns o → Gives ms o
-gives_more ns ms Accepted h g = tt
-gives_more ns ms (Refused why) h g = (more ns ms why.number h g.0, g.1)
-gives_more ns ms (Overloaded _) h g = elim g [ ]
+pub gives_more : (ns ms : List ℕ) (o : Answer) → inside ns ms ≡ true → Gives ns o → Gives ms o
+gives_more ns ms (Ok _) h g = tt
+gives_more ns ms (Err why) h g = more ns ms (number why) h g

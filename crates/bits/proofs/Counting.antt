@@ -7,7 +7,7 @@ use native.Mathlib.Omega.{arith}
 use lib.Dec.{eqb}
 use lib.Count.{ones, ones_step, ones-le}
 use lib.Pow.{shr-shr}
-use mir.Syntax.{w8, w64}
+use mir.Syntax.{w8}
 use mir.Val.{Fits}
 use Rattle.rows.specs.Row.{nth}
 use Rattle.rows.specs.Bit.{bit_at, has}
@@ -54,9 +54,6 @@ module _ (row : List ℕ) (k : ℕ) (byte : nth row k < 256) where
       let e : 8 * (k + 1) ≡ 8 * k + 8 = omega arith in
       ap (λ (n : ℕ). size n (has row)) e ∙ size_bits 8 (omega arith) ∙ ap (λ (x : ℕ). size (8 * k) (has row) + ones x) (div-one (nth row k))
 
-pub ones_few : {x : ℕ} → Fits w8 x → Fits w64 (ones x)
-ones_few {x} b = record { fits = omega (arith, ones-le 8 x b.fits) }
-
 -- The members among the bits of the first k bytes are counted.
 pub record Counting (group : List ℕ) (total k : ℕ) : Type 0 where
   pub upto : k ≤ 16
@@ -68,9 +65,6 @@ module _ (group : List ℕ) where
   unfolding over
   counting_none = record { upto = omega arith; few = omega arith; so_far = refl }
 
-  pub counting_room : {total k x : ℕ} → Counting group total k → k < 16 → Fits w8 x → Fits w64 (total + ones x)
-  counting_room {x = x} c h b = record { fits = omega (arith, c.few, ones-le 8 x b.fits) }
-
   pub counting_more : {total k : ℕ} → Counting group total k → k < 16 → Fits w8 (nth group k)
       → Counting group (total + ones (nth group k)) (k + 1)
   counting_more {total} {k} c h b = record {
@@ -78,8 +72,3 @@ module _ (group : List ℕ) where
     few = omega (arith, c.few, ones-le 8 (nth group k) b.fits);
     so_far = omega (arith, c.so_far, size_byte group k b.fits);
   }
-
-  pub counted : {total k : ℕ} → Counting group total k → 16 ≤ k → total ≡ size 128 (has group)
-  counted {total} {k} c h =
-      let e : k ≡ 16 = omega (arith, c.upto) in
-      rw e at c.so_far

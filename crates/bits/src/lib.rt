@@ -11,7 +11,7 @@ ghost use Rattle.bits.specs.Field.{field, with_bit, set_bit, put};
 fn byte(s: &[u8], k: usize) -> u32
     ensures { (result ≡ nth s.now k) × (result < 256) }
 {
-    if k < s.len() { s[k] as u32 } else { 0 }
+    s.get(k).map_or(0, |&x| u32::from(x))
 }
 
 // The number in the bits from `at` on, out of a window of four bytes.
@@ -49,12 +49,10 @@ pub fn put(out: &mut [u8], at: usize, width: usize, v: u32)
     requires { at + width < 2 ^ 64 }
     ensures { out.new ≡ put out.old at width v }
 {
-    let mut i = width;
     let mut x = v;
-    while i > 0 {
-        i -= 1;
+    for i in (0..width).rev() {
         set_bit(out, at + i, (x % 2) as u8);
-        x = x / 2;
+        x /= 2;
     }
 }
 
@@ -70,10 +68,8 @@ pub fn count(group: [u8; 16]) -> usize
     ensures { result ≡ size 128 (has group) }
 {
     let mut total: usize = 0;
-    let mut k: usize = 0;
-    while k < 16 {
-        total += u8::count_ones(group[k]) as usize;
-        k += 1;
+    for x in &group {
+        total += x.count_ones() as usize;
     }
     total
 }

@@ -1,4 +1,4 @@
-pub mod TestAnswers
+pub mod HeadRange
 pub mod Filling
 pub mod ReadEnds
 pub mod BranchRowsFilled

@@ -8,9 +8,8 @@ use Rattle.rows.specs.Row.{member}
 use lib.Dec.{ltb}
 use lib.IntN.{ℤ}
 use lib.ListN.{length, drop}
-use Rattle.answer.specs.declared.Outcome.TheVariants.{Accepted}
-use Rattle.answer.specs.declared.Answer.{Answer}
-use Rattle.answer.specs.Answer.{SaidBy, bare}
+use Rattle.answer.specs.declared.Refusal.TheVariants.{TooShort}
+use Rattle.answer.specs.Answer.{Answer, Accepted, SaidBy}
 use Rattle.answer.proofs.Refusals.{past_both, leaves}
 use Rattle.layout.specs.Form.{fields}
 use Rattle.layout.specs.Layout.{buses_in, branches_in, form_in, book_of, table_of}
@@ -25,15 +24,15 @@ pub read_gives : (bs : List ℕ) (i j : ℕ) → Gives read_numbers (read_check 
 unfolding read_check member inside
 read_gives bs i j =
     gives_then read_numbers (check_of bs) _ (gives_more check_numbers read_numbers (check_of bs) refl (check_gives bs))
-    (gives_if read_numbers (ltb i (buses_in bs) || ltb j (fields (form_in bs) * branches_in bs)) 8 Accepted refl tt)
+    (gives_if read_numbers (ltb i (buses_in bs) || ltb j (fields (form_in bs) * branches_in bs)) TooShort Accepted refl tt)
 
-pub read_said : (bs : List ℕ) (i j : ℕ) {r : Answer} → r ≡ bare (read_check bs i j) → SaidBy (read_check bs i j) r
+pub read_said : (bs : List ℕ) (i j : ℕ) {r : Answer} → r ≡ (read_check bs i j) → SaidBy (read_check bs i j) r
 unfolding member
-read_said bs i j = gives_said read_numbers (read_check bs i j) refl refl (read_gives bs i j)
+read_said bs i j = gives_said read_numbers (read_check bs i j) refl (read_gives bs i j)
 
-pub read_answer : {bs : List ℕ} {inj i : List ℤ} {bra b : List ℕ} {r : Answer} → BookRead bs inj i bra b r → r ≡ bare (read_check bs (length inj) (length bra))
+pub read_answer : {bs : List ℕ} {inj i : List ℤ} {bra b : List ℕ} {r : Answer} → BookRead bs inj i bra b r → r ≡ (read_check bs (length inj) (length bra))
 unfolding member
-read_answer {bs} {inj} {i} {bra} {b} {r} d = said_is read_numbers _ refl refl (read_gives bs (length inj) (length bra)) d.answer
+read_answer {bs} {inj} {i} {bra} {b} {r} d = said_is read_numbers _ refl (read_gives bs (length inj) (length bra)) d.answer
 
 pub record SameRead (r r' : Answer) (i i' : List ℤ) (b b' : List ℕ) : Type 0 where
   pub answers : r ≡ r'
@@ -47,7 +46,7 @@ read_once bs inj i i' bra b b' r r' p q = record {
   branches = p.branches_left ∙ sym q.branches_left;
 }
 
-pub read_kept : (bs : List ℕ) (inj i : List ℤ) (bra b : List ℕ) (r : Answer) → BookRead bs inj i bra b r → (r.outcome ≡ Accepted → ⊥) → (i ≡ inj) × (b ≡ bra)
+pub read_kept : (bs : List ℕ) (inj i : List ℤ) (bra b : List ℕ) (r : Answer) → BookRead bs inj i bra b r → (r ≡ Accepted → ⊥) → (i ≡ inj) × (b ≡ bra)
 read_kept bs inj i bra b r d a =
     let o = read_check bs (length inj) (length bra) in
     let e : o ≡ Accepted → ⊥ = rw (read_answer d) at a in

@@ -8,7 +8,7 @@ use native.Mathlib.Omega.{arith}
 use lib.Dec.{eqb}
 use lib.IntN.{ℤ, pos}
 use lib.ListN.{length, get_or, replicate, get_or-eq_default}
-use Rattle.answer.specs.declared.Outcome.TheVariants.{Accepted}
+use Rattle.answer.specs.Answer.{Accepted}
 use Rattle.rows.specs.Row.{up_to, headed}
 use Rattle.rows.proofs.Row.{length_up_to, get_d_up_to, headed_at, headed_rest}
 use Rattle.quantity.specs.Signed.{pos_part, neg_part}

@@ -1,17 +1,15 @@
 -- What reading a packed book promises.
 use Rattle.std.specs.Prelude.{◌≡◌, ◌||◌, List, [], ◌∷◌, ◌++◌, ℕ, ◌*◌, ltb, ℤ, length, drop}
-use Rattle.answer.specs.declared.Outcome.{Outcome}
-use Rattle.answer.specs.declared.Outcome.TheVariants.{Accepted}
-use Rattle.answer.specs.declared.Answer.{Answer}
-use Rattle.answer.specs.Answer.{SaidBy, refuse_if, and_then, settled}
+use Rattle.answer.specs.declared.Refusal.TheVariants.{TooShort}
+use Rattle.answer.specs.Answer.{Answer, Accepted, SaidBy, and_then, refuse_if, settled}
 use Rattle.bits.specs.Field.{Bytes}
 use Rattle.layout.specs.Form.{fields}
 use Rattle.layout.specs.Layout.{buses_in, branches_in, form_in, book_of, table_of}
 use Rattle.layout.specs.Check.{check_of}
 
 -- Refusals of the reader: the book's, then 8 where a lent table is too short for the book's form.
-unfoldable pub read_check : List ℕ → ℕ → ℕ → Outcome
-read_check bs i j = and_then (check_of bs) (refuse_if (ltb i (buses_in bs) || ltb j (fields (form_in bs) * branches_in bs)) 8 Accepted)
+unfoldable pub read_check : List ℕ → ℕ → ℕ → Answer
+read_check bs i j = and_then (check_of bs) (refuse_if (ltb i (buses_in bs) || ltb j (fields (form_in bs) * branches_in bs)) TooShort Accepted)
 
 abbrev pub read_numbers : List ℕ
 read_numbers = 1 ∷ 2 ∷ 3 ∷ 4 ∷ 5 ∷ 6 ∷ 7 ∷ 8 ∷ []

@@ -1,14 +1,13 @@
 // The rows of the case that an accepted book makes at a percentage of nameplate.
 ghost use Rattle.std.specs.Prelude.{◌≡◌, ◌≤◌};
-ghost use Rattle.answer.specs.declared.Outcome.TheVariants.{Accepted};
-ghost use Rattle.quantity.specs.Rating.{limit_of};
+ghost use Rattle.answer.specs.Answer.{Accepted};
 ghost use Rattle.layout.specs.Layout.{book_of};
 ghost use Rattle.layout.specs.Inside.{HeadRead};
 ghost use Rattle.layout.specs.Check.{check_of};
 ghost use Rattle.book.specs.Inside.{GainsRead, BranchesRead, RowsRead};
 
 use crate::injection_at;
-use layout::{Branch, Head};
+use layout::Head;
 use quantity::Kw;
 
 // The numbers of a case, a row for each: what the base flow keeps to, and what a loss is judged by. A branch in service may have limit 0, so
@@ -56,43 +55,24 @@ struct BranchRows {
     pub loss: [Kw; 256],
 }
 
-// What a branch can carry at a percentage of nameplate. Its ratings leave their kVA here alone.
-fn limit_of(x: Branch, factor: u32, percent: u32) -> Kw
-    requires { (factor ≤ 1000) × (percent ≤ 100) }
-    ensures { result.0 ≡ limit_of x.kva.0 factor percent }
-{
-    quantity::limit(x.kva, factor, percent)
-}
-
-// What it can carry for a short time, after the loss of another.
-fn loss_of(x: Branch, factor: u32, percent: u32) -> Kw
-    requires { (factor ≤ 1000) × (percent ≤ 100) }
-    ensures { result.0 ≡ limit_of x.kva2.0 factor percent }
-{
-    quantity::limit(x.kva2, factor, percent)
-}
-
-// The ends, the service and the limits in kW of each branch.
+// The ends, the service and the limits in kW of each branch at a percentage of nameplate: what it can carry, and for a short time, after the loss of
+// another. Its ratings leave their kVA here alone.
 fn branch_rows(percent: u32, book: &[u8], h: Head) -> BranchRows
     requires { (h.buses ≤ 128) × (h.branches ≤ 256) × (h.factor ≤ 1000) × (percent ≤ 100) }
     ensures { BranchesRead percent book.now h result }
 {
-    let form = h.form;
-    let buses = h.buses;
-    let branches = h.branches;
-    let factor = h.factor;
     let mut first = [0u8; 256];
     let mut second = [0u8; 256];
     let mut served = [false; 256];
     let mut limit = [Kw(0); 256];
     let mut loss = [Kw(0); 256];
-    for k in 0..branches {
-        let x = layout::branch_at(book, form, buses, k);
+    for k in 0..h.branches {
+        let x = layout::branch_at(book, h.form, h.buses, k);
         first[k] = x.first as u8;
         second[k] = x.second as u8;
         served[k] = x.status == 1;
-        limit[k] = limit_of(x, factor, percent);
-        loss[k] = loss_of(x, factor, percent);
+        limit[k] = quantity::limit(x.kva, h.factor, percent);
+        loss[k] = quantity::limit(x.kva2, h.factor, percent);
     }
     BranchRows {
         first,
@@ -108,18 +88,16 @@ pub fn rows_with(percent: u32, book: &[u8], h: Head) -> CaseRows
     requires { HeadRead book.now h × (check_of book.now ≡ Accepted) × (percent ≤ 100) }
     ensures { RowsRead percent (book_of book.now) result }
 {
-    let buses = h.buses;
-    let bus = bus_rows(book, buses);
-    let branch = branch_rows(percent, book, h);
-    let first = branch.first;
-    let second = branch.second;
-    let served = branch.served;
-    let limit = branch.limit;
-    let loss = branch.loss;
-    let gain = bus.gain;
-    let load = bus.load;
+    let BusRows { gain, load } = bus_rows(book, h.buses);
+    let BranchRows {
+        first,
+        second,
+        served,
+        limit,
+        loss,
+    } = branch_rows(percent, book, h);
     CaseRows {
-        buses,
+        buses: h.buses,
         branches: h.branches,
         first,
         second,

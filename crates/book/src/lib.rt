@@ -1,7 +1,7 @@
 // The packed book: read or refused. The rows that a screen works on: `cases`.
 #![tactic(auto)]
 
-ghost use Rattle.std.specs.Prelude.{◌≡◌, ◌*◌, ◌≤◌, length};
+ghost use Rattle.std.specs.Prelude.{◌≡◌, ◌*◌, ◌<◌, ◌≤◌, length};
 ghost use Rattle.rows.specs.Row.{headed};
 ghost use Rattle.layout.specs.Fault.{first_fault};
 ghost use Rattle.layout.specs.Form.{fields, branch_values};
@@ -13,29 +13,27 @@ ghost use Rattle.book.specs.Inside.{tabled};
 
 mod cases;
 
-use answer::{Answer, Outcome, Place};
+use answer::{Answer, Place, Refusal};
 pub use cases::{CaseRows, rows_of, rows_with};
-use layout::{Branch, Form, Head, Sums};
+use layout::{Branch, Form, Head};
 
-fn check_head(book: &[u8], h: Head) -> Outcome
+fn check_head(book: &[u8], h: Head) -> Answer
     requires { HeadRead book.now h }
     ensures { result ≡ head_check book.now }
 {
     if book.len() < 4 {
-        return answer::refuse(1);
+        return Err(Refusal::WrongLength);
     }
-    let n = h.buses;
-    if layout::is_outside(n, h.branches, h.factor) {
-        return answer::refuse(2);
+    if layout::is_outside(h.buses, h.branches, h.factor) {
+        return Err(Refusal::CountsOutside);
     }
     if h.spare != 0 {
-        return answer::refuse(3);
+        return Err(Refusal::HeaderFill);
     }
-    let form = h.form;
-    if book.len() != layout::bytes_for(form, n, h.branches) {
-        return answer::refuse(1);
+    if book.len() != layout::bytes_for(h.form, h.buses, h.branches) {
+        return Err(Refusal::WrongLength);
     }
-    Outcome::Accepted
+    Ok(())
 }
 
 // Bus k's injection.
@@ -47,30 +45,20 @@ pub fn injection_at(book: &[u8], k: usize) -> i32
     quantity::signed(x.sign == 1, x.size)
 }
 
-fn first_bus_fault(book: &[u8], buses: usize) -> Place
+fn first_bus_fault(book: &[u8], buses: usize) -> Option<Place>
     requires { buses ≤ 128 }
     ensures { result ≡ first_fault (bus_fault_at book.now) buses }
 {
-    for k in 0..buses {
-        let field = layout::bus_fault(layout::bus_at(book, k));
-        if field != 0 {
-            return Place::At { item: k, field };
-        }
-    }
-    Place::Nowhere
+    layout::first_fault(buses, |k| layout::bus_fault(layout::bus_at(book, k)))
 }
 
-fn first_branch_fault(book: &[u8], form: Form, buses: usize, branches: usize) -> Place
+fn first_branch_fault(book: &[u8], form: Form, buses: usize, branches: usize) -> Option<Place>
     requires { (form ≡ form_in book.now) × (buses ≡ buses_in book.now) × (buses ≤ 128) × (branches ≤ 256) }
     ensures { result ≡ first_fault (branch_fault_at book.now) branches }
 {
-    for k in 0..branches {
-        let field = layout::branch_fault(form, buses, layout::branch_at(book, form, buses, k));
-        if field != 0 {
-            return Place::At { item: k, field };
-        }
-    }
-    Place::Nowhere
+    layout::first_fault(branches, |k| {
+        layout::branch_fault(form, buses, layout::branch_at(book, form, buses, k))
+    })
 }
 
 // What enters is what leaves.
@@ -78,49 +66,41 @@ fn is_balanced(book: &[u8], buses: usize) -> bool
     requires { buses ≤ 128 }
     ensures { result ≡ balances buses (injection_at book.now) }
 {
-    let mut sums = Sums {
-        enters: 0,
-        leaves: 0,
-    };
-    for k in 0..buses {
-        sums = layout::count_in(sums, injection_at(book, k));
-    }
-    sums.enters == sums.leaves
+    layout::is_balanced(
+        buses,
+        |k| -> i32
+            requires { k < 128 }
+            ensures { result ≡ injection_at book.entry.now k }
+        { injection_at(book, k) },
+    )
 }
 
 // The tests after the header's: 4 to 7.
-fn check_body(book: &[u8], h: Head) -> Outcome
+fn check_body(book: &[u8], h: Head) -> Answer
     requires { HeadRead book.now h × (h.buses ≤ 128) × (h.branches ≤ 256) }
     ensures { result ≡ body_check book.now }
 {
-    let form = h.form;
-    let n = h.buses;
-    let bus = first_bus_fault(book, n);
-    if let Place::At { item: _, field: _ } = bus {
-        return answer::refuse_at(4, bus);
+    if let Some(place) = first_bus_fault(book, h.buses) {
+        return Err(Refusal::BusWrong(place));
     }
-    let branch = first_branch_fault(book, form, n, h.branches);
-    if let Place::At { item: _, field: _ } = branch {
-        return answer::refuse_at(5, branch);
+    if let Some(place) = first_branch_fault(book, h.form, h.buses, h.branches) {
+        return Err(Refusal::BranchWrong(place));
     }
-    if bits::field(book, layout::branch_place(form, n, h.branches), 7) != 0 {
-        return answer::refuse(6);
+    if bits::field(book, layout::branch_place(h.form, h.buses, h.branches), 7) != 0 {
+        return Err(Refusal::TailFill);
     }
-    if !is_balanced(book, n) {
-        return answer::refuse(7);
+    if !is_balanced(book, h.buses) {
+        return Err(Refusal::NotBalanced);
     }
-    Outcome::Accepted
+    Ok(())
 }
 
 // Refusals 1 to 7, of a book whose header is read.
-pub fn check_with(book: &[u8], h: Head) -> Outcome
+pub fn check_with(book: &[u8], h: Head) -> Answer
     requires { HeadRead book.now h }
     ensures { result ≡ check_of book.now }
 {
-    let head = check_head(book, h);
-    let Outcome::Accepted = head else {
-        return head;
-    };
+    check_head(book, h)?;
     check_body(book, h)
 }
 
@@ -153,14 +133,11 @@ fn fill_branches(book: &[u8], h: Head, out: &mut [u32])
     requires { (h.buses ≤ 128) × (h.branches ≤ 256) × (fields h.form * h.branches ≤ length out.old) }
     ensures { out.new ≡ tabled h.form h.branches (branch_after h.form h.buses book.now) out.old }
 {
-    let form = h.form;
-    let buses = h.buses;
-    let branches = h.branches;
-    for k in 0..branches {
-        let x = layout::branch_at(book, form, buses, k);
-        let a = layout::numbers(form, k);
-        let e = a + layout::fields(form);
-        fill_row(&mut out[a..e], form, x);
+    for k in 0..h.branches {
+        let x = layout::branch_at(book, h.form, h.buses, k);
+        let a = layout::numbers(h.form, k);
+        let e = a + layout::fields(h.form);
+        fill_row(&mut out[a..e], h.form, x);
     }
 }
 
@@ -169,19 +146,11 @@ pub fn read_book(book: &[u8], injections: &mut [i32], branches: &mut [u32]) -> A
     ensures { BookRead book.now injections.old injections.new branches.old branches.new result }
 {
     let h = layout::head_of(book);
-    let found = check_with(book, h);
-    let Outcome::Accepted = found else {
-        return answer::answer_with(found);
-    };
-    let form = h.form;
-    let n = h.buses;
-    if injections.len() < n {
-        return answer::answer_with(answer::refuse(8));
+    check_with(book, h)?;
+    if injections.len() < h.buses || branches.len() < layout::numbers(h.form, h.branches) {
+        return Err(Refusal::TooShort);
     }
-    if branches.len() < layout::numbers(form, h.branches) {
-        return answer::answer_with(answer::refuse(8));
-    }
-    fill_injections(book, n, injections);
+    fill_injections(book, h.buses, injections);
     fill_branches(book, h, branches);
-    answer::answer_with(Outcome::Accepted)
+    Ok(())
 }

@@ -14,13 +14,14 @@ ghost use Rattle.transfer.specs.Promise.{TransferEnds};
 ghost use Rattle.callable.specs.Promise.{PlaceTold, SaidInParts};
 ghost use Rattle.callable.specs.Inside.{Parts};
 
-use answer::{Answer, Outcome};
+use answer::Answer;
+use layout::Form;
 
 // Where a book is wrong, in two numbers.
-fn tell_place(outcome: Outcome, item: &mut usize, field: &mut u8)
-    ensures { PlaceTold (place_of outcome) item.new field.new }
+fn tell_place(answer: Answer, item: &mut usize, field: &mut u8)
+    ensures { PlaceTold (place_of answer) item.new field.new }
 {
-    let place = answer::place_of(outcome);
+    let place = answer::place_of(answer);
     *item = answer::item_of(place);
     *field = answer::field_of(place);
 }
@@ -35,12 +36,10 @@ fn tell(
 ) -> u8
     ensures { Parts answer result shortage.new group.new item.new field.new }
 {
-    let outcome = answer.outcome;
-    let reached = answer.group;
-    *shortage = answer::shortage_of(outcome);
-    *group = reached;
-    tell_place(outcome, item, field);
-    answer::number_of(outcome)
+    *shortage = answer::shortage_of(answer);
+    *group = answer::group_of(answer);
+    tell_place(answer, item, field);
+    answer::number_of(answer)
 }
 
 pub fn callable_screen(
@@ -122,8 +121,7 @@ pub fn callable_move_book(
 ) -> u8
     ensures { SaidInParts (BookMoved book.now (form_of form) out.old out.new) result 0 no_group item.new field.new }
 {
-    let answer = forms::move_book(book, layout::form_of(form as u32), out);
-    let outcome = answer.outcome;
-    tell_place(outcome, item, field);
-    answer::number_of(outcome)
+    let answer = forms::move_book(book, Form::from(u32::from(form)), out);
+    tell_place(answer, item, field);
+    answer::number_of(answer)
 }

@@ -11,8 +11,7 @@ use lib.IntN.{ℤ}
 use lib.ListN.{length, take, drop, length-take, length-drop}
 use lib.Seq.{get_or-take, get_or-drop}
 use Rattle.rows.specs.Bit.{has}
-use Rattle.answer.specs.Answer.{number_of, shortage_of, accepted, overloaded}
-use Rattle.answer.specs.declared.Answer.{Answer}
+use Rattle.answer.specs.Answer.{Answer, Accepted, number_of, overloaded, shortage_of}
 use Rattle.answer.proofs.Said.{said_overloaded}
 use Rattle.bits.specs.Field.{Bytes}
 use Rattle.layout.specs.Layout.{branches_in, book_of}
@@ -77,7 +76,7 @@ module _ {percent : ℕ} {now : Lent} (run : Run percent now) {after : Lent} {b 
   shown = (run_true run).each b (omega (arith, branches_of percent now.book))
 
   -- Accepted: it may be taken out for good, so it carries for a short time.
-  pub accepted_carried : r ≡ accepted → verdict_in rec ≡ 1
+  pub accepted_carried : r ≡ Accepted → verdict_in rec ≡ 1
   accepted_carried a =
       let C = case_in percent now.book in
       (carries_exactly C (run_posed run) (on now.flow) b rec shown in_service).1
@@ -85,10 +84,10 @@ module _ {percent : ℕ} {now : Lent} (run : Run percent now) {after : Lent} {b 
       (fits_none (out C b) (on after.flow) (posed_out run e there in_service) (take_done e a).took.updated.fits))
 
   -- Shown as short by v: refused with 12, and by v or more.
-  pub short_refused : SaysShort rec → (number_of r.outcome ≡ 12) × (shortage_in rec ≤ shortage_of r.outcome)
+  pub short_refused : SaysShort rec → (number_of r ≡ 12) × (shortage_in rec ≤ shortage_of r)
   short_refused v = go e
     where
-      go : TakeEnds percent b now after r → (number_of r.outcome ≡ 12) × (shortage_in rec ≤ shortage_of r.outcome)
+      go : TakeEnds percent b now after r → (number_of r ≡ 12) × (shortage_in rec ≤ shortage_of r)
       go (refuses n a k) = absurd (n (call_checked run e there in_service))
       go (unfit c n a k) = absurd (n (run_fits run))
       go (overloads c f o k) =
@@ -114,7 +113,7 @@ module _ {percent : ℕ} {now : Lent} (run : Run percent now) {after : Lent} {b 
 
     -- Which of the two it is.
     data Which : Type 0 where
-      was_carrying : verdict_in rec ≡ 1 → r ≡ accepted → Which
+      was_carrying : verdict_in rec ≡ 1 → r ≡ Accepted → Which
       was_short : SaysShort rec → r ≡ overloaded (shortage_in rec) (shown_group rec) → Which
 
     which : Which
@@ -129,7 +128,7 @@ module _ {percent : ℕ} {now : Lent} (run : Run percent now) {after : Lent} {b 
         go (missed v x) (overloads c f o k) = was_short v (overloaded_same (out (case_in percent now.book) b) r _ o x)
         go (missed v x) (accepts c f a o) = absurd (omega (arith, v, accepted_carried (is_accepted a)))
 
-    pub accepted_as_shown : (r ≡ accepted) ↔ (verdict_in rec ≡ 1)
+    pub accepted_as_shown : (r ≡ Accepted) ↔ (verdict_in rec ≡ 1)
     accepted_as_shown = elim which [
       | was_carrying v a ↦ (λ q. v, λ q. a)
       | was_short v o ↦ (λ q. absurd (never_accepted (number_of_lem o) (λ z. omega arith) q), λ q. absurd (omega arith))
@@ -142,5 +141,5 @@ module _ {percent : ℕ} {now : Lent} (run : Run percent now) {after : Lent} {b 
     ]
 
     -- An accepted call changed flow only on its branch and on branches that its recorded reroute names.
-    pub equal_confined : r ≡ accepted → Confined (case_in percent now.book) (on now.flow) rec b (on after.flow)
+    pub equal_confined : r ≡ Accepted → Confined (case_in percent now.book) (on now.flow) rec b (on after.flow)
     equal_confined a = let h = equal_reroute run e equal there (accepted_carried a) in call_confined run e a h.0 h.1.0 h.1.1

@@ -7,11 +7,8 @@ use Prim.Native.Nat.{ℕ}
 use lib.IntN.{ℤ}
 use lib.ListN.{length}
 use Rattle.rows.specs.Row.{member}
-use Rattle.answer.specs.Answer.{number_of, placed, no_group, Said, SaidBy, bare, refusal, accepted}
-use Rattle.answer.specs.declared.Place.TheVariants.{Nowhere}
-use Rattle.answer.specs.declared.Outcome.{Outcome}
-use Rattle.answer.specs.declared.Outcome.TheVariants.{Accepted}
-use Rattle.answer.specs.declared.Answer.{Answer}
+use Rattle.answer.specs.declared.Refusal.TheVariants.{FlowUnfit}
+use Rattle.answer.specs.Answer.{Answer, Accepted, Nowhere, Said, SaidBy, no_group, number_of, placed, refused}
 use Rattle.answer.proofs.Refusals.{leaves}
 use Rattle.answer.proofs.Said.{said_accepted, said_same}
 use Rattle.answer.proofs.Numbers.{Gives, gives_number, gives_place, inside, gives_more}
@@ -41,12 +38,12 @@ use Rattle.demands.specs.Answered.{Answered}
 use Rattle.demands.proofs.Ends.{back_never_12}
 
 -- ---- One answer.
-by_checks : (ns ms : List ℕ) (kept : Type 0) (o : Outcome) (r : Answer) → Gives ns o → inside ns ms ≡ true → SaidBy o r
-    → ((r ≡ accepted → ⊥) → kept) → Answered ms kept r
+by_checks : (ns ms : List ℕ) (kept : Type 0) (o : Answer) (r : Answer) → Gives ns o → inside ns ms ≡ true → SaidBy o r
+    → ((r ≡ Accepted → ⊥) → kept) → Answered ms kept r
 by_checks ns ms kept o r g i s h = record {
   given = rw s.number_is (gives_number ms o (gives_more ns ms o i g));
   silent = λ n. rw (s.number_is, s.place_is) s;
-  place_given = rw (s.number_is, s.place_is) (gives_place ns o g);
+  place_given = rw (s.number_is, s.place_is) (gives_place o);
   refused_keeps = h;
 }
 
@@ -61,7 +58,7 @@ by_overload ms kept C r o g h = record {
 
 -- By a number without a place.
 by_number : (ms : List ℕ) (kept : Type 0) (n : ℕ) (r : Answer) → Said r n 0 no_group Nowhere → member n (0 ∷ ms) ≡ true → member n placed ≡ false
-    → ((r ≡ accepted → ⊥) → kept) → Answered ms kept r
+    → ((r ≡ Accepted → ⊥) → kept) → Answered ms kept r
 by_number ms kept n r s g f h = record {
   given = rw s.number_is g;
   silent = λ _. rw (s.number_is, s.place_is) s;
@@ -70,12 +67,12 @@ by_number ms kept n r s g f h = record {
 }
 
 -- A number outside the list is never given.
-never : {ms : List ℕ} {kept : Type 0} {r : Answer} → Answered ms kept r → (n : ℕ) → member n (0 ∷ ms) ≡ false → number_of r.outcome ≡ n → ⊥
+never : {ms : List ℕ} {kept : Type 0} {r : Answer} → Answered ms kept r → (n : ℕ) → member n (0 ∷ ms) ≡ false → number_of r ≡ n → ⊥
 never {ms} a n m e = true≢false (sym a.given ∙ ap (λ (x : ℕ). member x (0 ∷ ms)) e ∙ m)
 
 -- What isn't accepted was refused by its checks.
-not_bare : (o : Outcome) (r : Answer) → r ≡ bare o → (r ≡ accepted → ⊥) → o ≡ Accepted → ⊥
-not_bare o r e n q = n (e ∙ ap bare q)
+not_bare : (o : Answer) (r : Answer) → r ≡ o → (r ≡ Accepted → ⊥) → o ≡ Accepted → ⊥
+not_bare o r e n q = n (e ∙ q)
 
 -- ---- The calls without a choice.
 pub reads : {bs : List ℕ} {inj inj' : List ℤ} {bra bra' : List ℕ} {r : Answer} → BookRead bs inj inj' bra bra' r → Answered read_numbers ((inj' ≡ inj) × (bra' ≡ bra)) r
@@ -110,7 +107,7 @@ screens {r = r} (overloads c o k) = by_overload (12 ∷ lent_numbers) _ _ r o re
 screens {r = r} (accepts c a s) = by_number (12 ∷ lent_numbers) _ 0 r a refl refl (λ h. absurd (h (said_same a said_accepted)))
 
 -- The checks give ns; the list ms has these and 11, and it has 12 where that is given.
-pub answers : (ns ms : List ℕ) {check : Outcome} {C D : Case} {done : Type 0} {before after : Lent} {r : Answer} → Gives ns check
+pub answers : (ns ms : List ℕ) {check : Answer} {C D : Case} {done : Type 0} {before after : Lent} {r : Answer} → Gives ns check
     → inside ns ms ≡ true → member 11 (0 ∷ ms) ≡ true → (OverloadSaid D r → member 12 (0 ∷ ms) ≡ true)
     → Ends check C D done before after r → Answered ms (after ≡ before) r
 unfolding member
@@ -130,12 +127,12 @@ module _ {percent b : ℕ} {before after : Lent} {r : Answer} where
   backs e = answers back_numbers (11 ∷ back_numbers) (back_gives _ _ _ _ _) refl refl (λ o. absurd (back_never_12 e o.answer.number_is)) e
 
   -- No outage ends with 17.
-  pub take_never_17 : TakeEnds percent b before after r → number_of r.outcome ≡ 17 → ⊥
+  pub take_never_17 : TakeEnds percent b before after r → number_of r ≡ 17 → ⊥
   unfolding member
   take_never_17 e = never (takes e) 17 refl
 
   -- No return ends with 10.
-  pub back_never_10 : BackEnds percent b before after r → number_of r.outcome ≡ 10 → ⊥
+  pub back_never_10 : BackEnds percent b before after r → number_of r ≡ 10 → ⊥
   unfolding member
   back_never_10 e = never (backs e) 10 refl
 
@@ -151,7 +148,7 @@ screen_first (refuses n a k) h = a
 screen_first (overloads c o k) h = absurd (h c)
 screen_first (accepts c a s) h = absurd (h c)
 
-module _ {check : Outcome} {C D : Case} {done : Type 0} {before after : Lent} {r : Answer} where
+module _ {check : Answer} {C D : Case} {done : Type 0} {before after : Lent} {r : Answer} where
   pub call_first : Ends check C D done before after r → (check ≡ Accepted → ⊥) → SaidBy check r
   call_first (call.refuses n a k) h = a
   call_first (call.unfit c n a k) h = absurd (h c)
@@ -159,7 +156,7 @@ module _ {check : Outcome} {C D : Case} {done : Type 0} {before after : Lent} {r
   call_first (call.accepts c f a o) h = absurd (h c)
 
   -- Past the checks, a lent flow that doesn't fit is refused with 11.
-  pub call_unfit : Ends check C D done before after r → check ≡ Accepted → (Fits C C.limit (on before.flow) → ⊥) → SaidBy (refusal 11) r
+  pub call_unfit : Ends check C D done before after r → check ≡ Accepted → (Fits C C.limit (on before.flow) → ⊥) → SaidBy (refused FlowUnfit) r
   call_unfit (call.refuses n a k) c m = absurd (n c)
   call_unfit (call.unfit c' m' a k) c m = a
   call_unfit (call.overloads c' f o k) c m = absurd (m f)

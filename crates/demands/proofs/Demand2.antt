@@ -9,9 +9,7 @@ use lib.IntN.{ℤ, pos, nat_abs}
 use lib.Signed.{◌≤ℤ◌, ◌<ℤ◌}
 use Rattle.rows.specs.Sum.{Group}
 use Rattle.rows.specs.Bit.{has}
-use Rattle.answer.specs.Answer.{number_of, shortage_of, accepted}
-use Rattle.answer.specs.declared.Outcome.TheVariants.{Accepted}
-use Rattle.answer.specs.declared.Answer.{Answer}
+use Rattle.answer.specs.Answer.{Answer, Accepted, number_of, shortage_of, group_of}
 use Rattle.grid.proofs.Net.{gains, loads, ratings}
 use Rattle.verdict.specs.Case.{Case, Posed, out, on, Fits}
 use Rattle.verdict.specs.Excess.{P, R, RWithout, one_end, excess, excess_without, NoExcess, Overload, Carries, Short}
@@ -31,7 +29,7 @@ module _ {percent : ℕ} {before after : Lent} {r : Answer} (e : ScreenEnds perc
   C = case_in percent before.book
 
   -- ---- An accepted screen, branch by branch.
-  module _ (a : r ≡ accepted) (k : ℕ) (there : k < C.branches) where
+  module _ (a : r ≡ Accepted) (k : ℕ) (there : k < C.branches) where
     abbrev rec : List ℕ
     rec = record_at after.table k
 
@@ -86,20 +84,20 @@ module _ {percent : ℕ} {before after : Lent} {r : Answer} (e : ScreenEnds perc
 
   -- ---- The base excess.
   -- Refused with 12: the excess shown is the base excess, above 0, and the group the smallest reaching it.
-  pub refused_shows : number_of r.outcome ≡ 12 → Overload C (shortage_of r.outcome) (has r.group)
+  pub refused_shows : number_of r ≡ 12 → Overload C (shortage_of r) (has (group_of r))
   refused_shows n =
       let o = over_12 e n in
-      subst (λ (v : ℕ). Overload C v (has r.group)) (sym o.answer.shortage_is) (subst (λ (g : List ℕ). Overload C o.shortage (has g)) (sym o.answer.group_is) o.overload)
+      subst (λ (v : ℕ). Overload C v (has (group_of r))) (sym o.answer.shortage_is) (subst (λ (g : List ℕ). Overload C o.shortage (has g)) (sym o.answer.group_is) o.overload)
 
-  pub refused_surplus : number_of r.outcome ≡ 12 → pos 0 <ℤ P C (has r.group)
-  refused_surplus n = told.overload_surplus C (shortage_of r.outcome) (has r.group) (refused_shows n)
+  pub refused_surplus : number_of r ≡ 12 → pos 0 <ℤ P C (has (group_of r))
+  refused_surplus n = told.overload_surplus C (shortage_of r) (has (group_of r)) (refused_shows n)
 
   module _ (checked : screen_check percent before ≡ Accepted) where
     posed_here : Posed C
     posed_here = posed_passed (passed before.book _ _ checked)
 
     -- Refused with 12 exactly if some group has a surplus above what the branches leaving it may carry.
-    pub refused_exactly : (number_of r.outcome ≡ 12) ↔ ((S : Group) × (pos (R C S) <ℤ P C S))
+    pub refused_exactly : (number_of r ≡ 12) ↔ ((S : Group) × (pos (R C S) <ℤ P C S))
     refused_exactly = (
       λ n.
           let o = over_12 e n in
@@ -108,16 +106,16 @@ module _ {percent : ℕ} {before after : Lent} {r : Answer} (e : ScreenEnds perc
       λ w. from e w.0 ((excess_above C w.0).0 w.1),
     )
       where
-        from : ScreenEnds percent before after r → (S : Group) → loads (base C) S + ratings (base C) S < gains (base C) S → number_of r.outcome ≡ 12
+        from : ScreenEnds percent before after r → (S : Group) → loads (base C) S + ratings (base C) S < gains (base C) S → number_of r ≡ 12
         from (refuses n a k) S h = absurd (n checked)
         from (overloads c o k) S h = o.answer.number_is
         from (accepts c a s) S h = absurd (omega (arith, (no_excess_plain C).0 (fits_none C (on after.flow) posed_here s.table_true.fits) S))
 
     -- Otherwise it is accepted.
-    pub accepted_or_12 : (r ≡ accepted) ⊎ (number_of r.outcome ≡ 12)
+    pub accepted_or_12 : (r ≡ Accepted) ⊎ (number_of r ≡ 12)
     accepted_or_12 = go e
       where
-        go : ScreenEnds percent before after r → (r ≡ accepted) ⊎ (number_of r.outcome ≡ 12)
+        go : ScreenEnds percent before after r → (r ≡ Accepted) ⊎ (number_of r ≡ 12)
         go (refuses n a k) = absurd (n checked)
         go (overloads c o k) = inr o.answer.number_is
         go (accepts c a s) = inl (is_accepted a)

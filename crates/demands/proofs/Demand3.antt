@@ -9,9 +9,7 @@ use native.Mathlib.Omega.{arith}
 use lib.IntN.{ℤ, ◌-ℤ◌}
 use lib.ListN.{length}
 use Rattle.rows.specs.Row.{nth}
-use Rattle.answer.specs.Answer.{number_of, accepted}
-use Rattle.answer.specs.declared.Outcome.TheVariants.{Accepted}
-use Rattle.answer.specs.declared.Answer.{Answer}
+use Rattle.answer.specs.Answer.{Answer, Accepted, number_of}
 use Rattle.quantity.specs.Rating.{percent_out}
 use Rattle.bits.specs.Field.{set_bit}
 use Rattle.layout.specs.Layout.{branches_in, status_bit, book_of}
@@ -58,7 +56,7 @@ stands_passed {percent} {l} s = record {
 
 -- An accepted outage leaves it, and so do an accepted return and an accepted move of load.
 module _ {percent : ℕ} {before after : Lent} {b : ℕ} {r : Answer} where
-  pub take_stands : Stands percent before → TakeEnds percent b before after r → r ≡ accepted → Stands percent after
+  pub take_stands : Stands percent before → TakeEnds percent b before after r → r ≡ Accepted → Stands percent after
   take_stands s e a =
       let d = take_done e a in
       record {
@@ -67,7 +65,7 @@ module _ {percent : ℕ} {before after : Lent} {b : ℕ} {r : Answer} where
         table_true = rw d.took.case_is (call_true d.posed_case d.took s.table_true);
       }
 
-  pub back_stands : Stands percent before → BackEnds percent b before after r → r ≡ accepted → Stands percent after
+  pub back_stands : Stands percent before → BackEnds percent b before after r → r ≡ Accepted → Stands percent after
   back_stands s e a =
       let d = back_done e a in
       record {
@@ -77,7 +75,7 @@ module _ {percent : ℕ} {before after : Lent} {b : ℕ} {r : Answer} where
       }
 
 pub transfer_stands : {percent up down kw : ℕ} {before after : Lent} {r : Answer} → Stands percent before
-    → TransferEnds percent up down kw before after r → r ≡ accepted → Stands percent after
+    → TransferEnds percent up down kw before after r → r ≡ Accepted → Stands percent after
 transfer_stands {up = up} {down = down} {kw = kw} {before = before} {after = after} s e a =
     let d = transfer_done e a in
     record {
@@ -131,10 +129,10 @@ module _ {percent : ℕ} {now : Lent} (run : Run percent now) where
   -- ---- Every verdict, shortage and group equals that of any fresh screen of the book as it then stands.
   module _ {before after : Lent} {r : Answer} (same_book : before.book ≡ now.book) (e : ScreenEnds percent before after r) where
     -- a fresh screen that is lent enough isn't refused
-    pub run_screens : branches_in now.book ≤ length before.flow → 52 * branches_in now.book ≤ length before.table → r ≡ accepted
+    pub run_screens : branches_in now.book ≤ length before.flow → 52 * branches_in now.book ≤ length before.table → r ≡ Accepted
     run_screens l m = go e
       where
-        go : ScreenEnds percent before after r → r ≡ accepted
+        go : ScreenEnds percent before after r → r ≡ Accepted
         go (refuses n a k) = absurd (n (passing _ _ _ (record {
           in_range = (run_stands run).in_range;
           book = rw same_book (run_stands run).book;
@@ -145,24 +143,24 @@ module _ {percent : ℕ} {now : Lent} (run : Run percent now) where
             (subst (λ (bs : List ℕ). OverloadSaid (case_in percent bs) r) same_book o))
         go (accepts c a s) = is_accepted a
 
-    pub run_fresh : r ≡ accepted → (k : ℕ) → k < C.branches → (j : ℕ) → j < 20 → nth (record_at now.table k) j ≡ nth (record_at after.table k) j
+    pub run_fresh : r ≡ Accepted → (k : ℕ) → k < C.branches → (j : ℕ) → j < 20 → nth (record_at now.table k) j ≡ nth (record_at after.table k) j
     run_fresh a =
         tables_agree C now.flow after.flow now.table after.table run_true
         (subst (λ (bs : List ℕ). TrueTable (case_in percent bs) after.flow after.table) same_book (done e a).screened.table_true)
 
   -- ---- An outage in the run.
   module _ {after : Lent} {b : ℕ} {r : Answer} (e : TakeEnds percent b now after r) where
-    pub call_joins : r ≡ accepted → Run percent after
+    pub call_joins : r ≡ Accepted → Run percent after
     call_joins a = taken b run e a
 
     -- Only shortlisted records were rewritten.
-    pub call_rewrites : r ≡ accepted → (k : ℕ) → k < C.branches → (Shortlisted (out C b) now.table (Touched (on now.flow) (on after.flow) b) k → ⊥)
+    pub call_rewrites : r ≡ Accepted → (k : ℕ) → k < C.branches → (Shortlisted (out C b) now.table (Touched (on now.flow) (on after.flow) b) k → ⊥)
         → record_at after.table k ≡ record_at now.table k
     call_rewrites a = (take_done e a).took.updated.kept
 
     -- Flow changed only on the branch and on branches that its recorded reroute names, whenever some flow so confined fits the changed book within
     -- the normal limits ..
-    pub call_confined : r ≡ accepted → (h : ℕ → ℤ) → Fits (out C b) C.limit h → Confined C (on now.flow) (record_at now.table b) b h
+    pub call_confined : r ≡ Accepted → (h : ℕ → ℤ) → Fits (out C b) C.limit h → Confined C (on now.flow) (record_at now.table b) b h
         → Confined C (on now.flow) (record_at now.table b) b (on after.flow)
     call_confined a = (take_done e a).took.confined
 
@@ -207,5 +205,5 @@ module _ {percent : ℕ} {now : Lent} (run : Run percent now) where
         pub call_fresh : r ≡ s
         call_fresh = ends_fresh call_checked run_fits posed_out (λ o. o.updated.fits) same_case screen_checked e f
 
-        pub call_refused : (number_of r.outcome ≡ 12) ↔ (number_of s.outcome ≡ 12)
+        pub call_refused : (number_of r ≡ 12) ↔ (number_of s ≡ 12)
         call_refused = (λ n. sym (number_of_lem call_fresh) ∙ n, λ n. number_of_lem call_fresh ∙ n)

@@ -6,10 +6,7 @@ use Prim.Native.Nat.{ℕ}
 use native.Mathlib.Omega.{arith}
 use lib.ListN.{length}
 use Rattle.rows.specs.Row.{member}
-use Rattle.answer.specs.Answer.{number_of, SaidBy, accepted}
-use Rattle.answer.specs.declared.Outcome.{Outcome}
-use Rattle.answer.specs.declared.Outcome.TheVariants.{Accepted}
-use Rattle.answer.specs.declared.Answer.{Answer}
+use Rattle.answer.specs.Answer.{Answer, Accepted, SaidBy, number_of}
 use Rattle.answer.proofs.Said.{said_accepted, said_same}
 use Rattle.answer.proofs.Numbers.{Gives, gives_not, said_is}
 use Rattle.verdict.specs.Case.{Case, Posed, back, shifted, on, Fits}
@@ -32,29 +29,29 @@ use Rattle.transfer.specs.Promise.{transfer_numbers, Transferred, TransferEnds}
 use Rattle.transfer.proofs.Checking.{Movable, movable, transfer_gives}
 use Rattle.transfer.proofs.BookShifted.{shifted_posed}
 
-pub number_of_lem : {r s : Answer} → r ≡ s → number_of r.outcome ≡ number_of s.outcome
-number_of_lem e = ap (λ (x : Answer). number_of x.outcome) e
+pub number_of_lem : {r s : Answer} → r ≡ s → number_of r ≡ number_of s
+number_of_lem e = ap (λ (x : Answer). number_of x) e
 
-pub is_accepted : {r : Answer} → SaidBy Accepted r → r ≡ accepted
+pub is_accepted : {r : Answer} → SaidBy Accepted r → r ≡ Accepted
 is_accepted s = said_same s said_accepted
 
-pub never_accepted : {r : Answer} {n : ℕ} → number_of r.outcome ≡ n → (n ≡ 0 → ⊥) → r ≡ accepted → ⊥
+pub never_accepted : {r : Answer} {n : ℕ} → number_of r ≡ n → (n ≡ 0 → ⊥) → r ≡ Accepted → ⊥
 never_accepted e z a = z (sym e ∙ number_of_lem a)
 
-pub over_not : {C : Case} {r : Answer} → OverloadSaid C r → r ≡ accepted → ⊥
+pub over_not : {C : Case} {r : Answer} → OverloadSaid C r → r ≡ Accepted → ⊥
 over_not o = never_accepted o.answer.number_is (λ z. omega arith)
 
 -- A refusal by the checks is no accepted call.
-pub refused_not : (ns : List ℕ) (o : Outcome) {r : Answer} → member 0 ns ≡ false → member 12 ns ≡ false → Gives ns o
-    → (o ≡ Accepted → ⊥) → SaidBy o r → r ≡ accepted → ⊥
-refused_not ns o z t g n s e = n (ap (λ (x : Answer). x.outcome) (sym (said_is ns o z t g s) ∙ e))
+pub refused_not : (ns : List ℕ) (o : Answer) {r : Answer} → member 12 ns ≡ false → Gives ns o
+    → (o ≡ Accepted → ⊥) → SaidBy o r → r ≡ Accepted → ⊥
+refused_not ns o t g n s e = n (sym (said_is ns o t g s) ∙ e)
 
 -- ---- A screen.
 module _ {percent : ℕ} {before after : Lent} {r : Answer} where
-  pub done : ScreenEnds percent before after r → r ≡ accepted → Done percent before after
-  done e a = accepted_screen e (ap (λ (x : Answer). x.outcome) a)
+  pub done : ScreenEnds percent before after r → r ≡ Accepted → Done percent before after
+  done e a = accepted_screen e a
 
-  pub over_12 : ScreenEnds percent before after r → number_of r.outcome ≡ 12 → OverloadSaid (case_in percent before.book) r
+  pub over_12 : ScreenEnds percent before after r → number_of r ≡ 12 → OverloadSaid (case_in percent before.book) r
   unfolding member
   over_12 (refuses n a k) e = absurd (gives_not lent_numbers (screen_check percent before) 12 (lent_gives _ _ _ _) refl (λ z. omega arith)
       (sym a.number_is ∙ e))
@@ -62,30 +59,30 @@ module _ {percent : ℕ} {before after : Lent} {r : Answer} where
   over_12 (accepts c a s) e = absurd (omega (arith, a.number_is, e))
 
 -- ---- A call that changes a case.
-pub record CallDone (check : Outcome) (C : Case) (what : Type 0) (before : Lent) : Type 0 where
+pub record CallDone (check : Answer) (C : Case) (what : Type 0) (before : Lent) : Type 0 where
   pub passes : check ≡ Accepted
   pub fitted : Fits C C.limit (on before.flow)
   pub did : what
 
-module _ (ns : List ℕ) {check : Outcome} {C D : Case} {what : Type 0} {before after : Lent} {r : Answer}
+module _ (ns : List ℕ) {check : Answer} {C D : Case} {what : Type 0} {before after : Lent} {r : Answer}
     (z : member 0 ns ≡ false) (t : member 12 ns ≡ false) (g : Gives ns check) where
   -- Accepted, it did what it promises.
-  pub call_done : Ends check C D what before after r → r ≡ accepted → CallDone check C what before
-  call_done (call.refuses n a k) e = absurd (refused_not ns _ z t g n a e)
+  pub call_done : Ends check C D what before after r → r ≡ Accepted → CallDone check C what before
+  call_done (call.refuses n a k) e = absurd (refused_not ns _ t g n a e)
   call_done (call.unfit c n a k) e = absurd (never_accepted a.number_is (λ q. omega arith) e)
   call_done (call.overloads c f o k) e = absurd (over_not o e)
   call_done (call.accepts c f a o) e = record { passes = c; fitted = f; did = o }
 
   -- Refused with 12, it told the base excess of the changed case.
-  pub call_over : Ends check C D what before after r → number_of r.outcome ≡ 12 → CallDone check C (OverloadSaid D r) before
+  pub call_over : Ends check C D what before after r → number_of r ≡ 12 → CallDone check C (OverloadSaid D r) before
   call_over (call.refuses n a k) e = absurd (gives_not ns check 12 g t (λ q. omega arith) (sym a.number_is ∙ e))
   call_over (call.unfit c n a k) e = absurd (omega (arith, a.number_is, e))
   call_over (call.overloads c f o k) e = record { passes = c; fitted = f; did = o }
   call_over (call.accepts c f a o) e = absurd (omega (arith, a.number_is, e))
 
   -- It was accepted or it wasn't.
-  pub call-accepted? : Ends check C D what before after r → Dec (r ≡ accepted)
-  call-accepted? (call.refuses n a k) = no (refused_not ns _ z t g n a)
+  pub call-accepted? : Ends check C D what before after r → Dec (r ≡ Accepted)
+  call-accepted? (call.refuses n a k) = no (refused_not ns _ t g n a)
   call-accepted? (call.unfit c n a k) = no (never_accepted a.number_is (λ q. omega arith))
   call-accepted? (call.overloads c f o k) = no (over_not o)
   call-accepted? (call.accepts c f a o) = yes (is_accepted a)
@@ -97,7 +94,7 @@ pub record TakeDone (percent b : ℕ) (before after : Lent) : Type 0 where
   pub fitted : Fits (case_in percent before.book) (case_in percent before.book).limit (on before.flow)
   pub took : TakenOut percent b before after
 
-pub take_done : {percent b : ℕ} {before after : Lent} {r : Answer} → TakeEnds percent b before after r → r ≡ accepted
+pub take_done : {percent b : ℕ} {before after : Lent} {r : Answer} → TakeEnds percent b before after r → r ≡ Accepted
     → TakeDone percent b before after
 unfolding member
 take_done {percent} {b} {before} e a =
@@ -115,7 +112,7 @@ pub record BackDone (percent b : ℕ) (before after : Lent) : Type 0 where
 
 module _ {percent b : ℕ} {before after : Lent} {r : Answer} where
   -- An accepted return has done so.
-  pub back_done : BackEnds percent b before after r → r ≡ accepted → BackDone percent b before after
+  pub back_done : BackEnds percent b before after r → r ≡ Accepted → BackDone percent b before after
   unfolding member
   back_done e a =
       let d = call_done back_numbers refl refl (back_gives _ _ _ _ _) e a in
@@ -123,7 +120,7 @@ module _ {percent b : ℕ} {before after : Lent} {r : Answer} where
       record { passes = t; posed_case = posed_passed t.passes; fitted = d.fitted; brought = d.did }
 
   -- A return never ends with 12: the lent flow fits the changed book.
-  pub back_never_12 : BackEnds percent b before after r → number_of r.outcome ≡ 12 → ⊥
+  pub back_never_12 : BackEnds percent b before after r → number_of r ≡ 12 → ⊥
   unfolding member
   back_never_12 e n =
       let C = case_in percent before.book in
@@ -135,7 +132,7 @@ module _ {percent b : ℕ} {before after : Lent} {r : Answer} where
   -- A return that passes its checks, lent a flow that fits, is accepted.
   pub back_accepted : Returnable percent before.book (length before.flow) (length before.table) b
       → Fits (case_in percent before.book) (case_in percent before.book).limit (on before.flow) → BackEnds percent b before after r
-      → r ≡ accepted
+      → r ≡ Accepted
   back_accepted t f (call.refuses n a k) = absurd (n (returning _ _ _ b t))
   back_accepted t f (call.unfit c n a k) = absurd (n f)
   back_accepted t f (call.overloads c h o k) = absurd (back_never_12 (call.overloads c h o k) o.answer.number_is)
@@ -152,7 +149,7 @@ pub record TransferDone (percent up down kw : ℕ) (before after : Lent) : Type 
   pub fitted : Fits (case_in percent before.book) (case_in percent before.book).limit (on before.flow)
   pub moved : Transferred percent up down kw before after
 
-pub transfer_done : {percent up down kw : ℕ} {before after : Lent} {r : Answer} → TransferEnds percent up down kw before after r → r ≡ accepted
+pub transfer_done : {percent up down kw : ℕ} {before after : Lent} {r : Answer} → TransferEnds percent up down kw before after r → r ≡ Accepted
     → TransferDone percent up down kw before after
 unfolding member
 transfer_done {percent} {up} {down} {kw} {before} e a =

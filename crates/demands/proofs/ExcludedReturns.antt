@@ -4,10 +4,8 @@ use mathlib.Core.Bool.{true}
 use Prim.Native.Nat.{ℕ, ◌<◌}
 use native.Mathlib.Omega.{arith}
 use lib.ListN.{length}
-use Rattle.answer.specs.Answer.{SaidBy, refusal, accepted}
-use Rattle.answer.specs.declared.Outcome.{Outcome}
-use Rattle.answer.specs.declared.Outcome.TheVariants.{Accepted}
-use Rattle.answer.specs.declared.Answer.{Answer}
+use Rattle.answer.specs.declared.Refusal.TheVariants.{FlowUnfit, AlreadyIn}
+use Rattle.answer.specs.Answer.{Answer, Accepted, SaidBy, refused}
 use Rattle.answer.proofs.Refusals.{refusal_stands}
 use Rattle.bits.specs.Field.{OneBit}
 use Rattle.layout.specs.Layout.{buses_in, branches_in, form_in, status_bit, branch_at}
@@ -28,7 +26,7 @@ module _ {percent : ℕ} {before after : Lent} {b : ℕ} {r : Answer} (e : BackE
   abbrev C : Case
   C = case_in percent before.book
 
-  module _ (a : r ≡ accepted) where
+  module _ (a : r ≡ Accepted) where
     -- One that changes the flow, as a screen of the changed book may.
     pub flow_changed : (after.flow ≡ before.flow → ⊥) → ⊥
     flow_changed n = n (return_flow e a)
@@ -56,15 +54,15 @@ module _ {percent : ℕ} {before after : Lent} {b : ℕ} {r : Answer} (e : BackE
   -- One that tests 11 before 17: a branch in service is refused with 17, whatever the flow.
   pub seventeen_first : Passed percent before.book (length before.flow) (length before.table) → b < branches_in before.book
       → C.served b ≡ true
-      → SaidBy (refusal 17) r
+      → SaidBy (refused AlreadyIn) r
   seventeen_first p there on_now =
       let bs = before.book in
-      let c = by_status percent bs (length before.flow) (length before.table) b 1 17 (passing _ _ _ p) there (branch_at bs b) (form_in bs)
+      let c = by_status percent bs (length before.flow) (length before.table) b 1 AlreadyIn (passing _ _ _ p) there (branch_at bs b) (form_in bs)
       (buses_in bs) refl refl refl
       (served_status percent bs b there on_now) in
-      subst (λ (o : Outcome). SaidBy o r) (sym c) (call_first e (λ q. refusal_stands 17 (c ∙ q)))
+      subst (λ (o : Answer). SaidBy o r) (sym c) (call_first e (λ q. refusal_stands AlreadyIn (c ∙ q)))
 
   -- One that accepts a flow that doesn't fit: past the checks it is refused with 11.
   pub eleven_after : back_check percent before.book (length before.flow) (length before.table) b ≡ Accepted
-      → (Fits C C.limit (on before.flow) → ⊥) → SaidBy (refusal 11) r
+      → (Fits C C.limit (on before.flow) → ⊥) → SaidBy (refused FlowUnfit) r
   eleven_after = call_unfit e

@@ -6,9 +6,8 @@ use mathlib.Core.Bool.{true}
 use lib.IntN.{pos, nat_abs, ◌+ℤ◌, ◌-ℤ◌}
 use lib.ListN.{length}
 use Rattle.rows.specs.Row.{nth}
-use Rattle.answer.specs.Answer.{SaidBy, refusal, accepted}
-use Rattle.answer.specs.declared.Outcome.{Outcome}
-use Rattle.answer.specs.declared.Answer.{Answer}
+use Rattle.answer.specs.declared.Refusal.TheVariants.{InjectionOutside}
+use Rattle.answer.specs.Answer.{Answer, Accepted, SaidBy, refused}
 use Rattle.answer.proofs.Refusals.{refusal_stands}
 use Rattle.layout.specs.Layout.{buses_in, bus_at}
 use Rattle.layout.proofs.AcceptedWhere.{accepted_valid}
@@ -28,7 +27,7 @@ module _ {percent up down kw : ℕ} {before after : Lent} {r : Answer} (e : Tran
   abbrev C : Case
   C = case_in percent before.book
 
-  module _ (a : r ≡ accepted) where
+  module _ (a : r ≡ Accepted) where
     -- One that writes a minus zero: no bus of the book that is left has sign 1 and size 0.
     pub minus_zero_left : (k : ℕ) → k < buses_in after.book → nth (bus_at after.book k) 0 ≡ 1 → nth (bus_at after.book k) 1 ≡ 0 → ⊥
     minus_zero_left k l =
@@ -59,7 +58,7 @@ module _ {percent up down kw : ℕ} {before after : Lent} {r : Answer} (e : Tran
 
   -- One that tests 11 before 20: an injection that would leave its range is refused with 20, whatever the flow.
   pub twenty_first : Passed percent before.book (length before.flow) (length before.table) → up < buses_in before.book
-      → down < buses_in before.book → (up ≡ down → ⊥) → leaves_range before.book up down kw ≡ true → SaidBy (refusal 20) r
+      → down < buses_in before.book → (up ≡ down → ⊥) → leaves_range before.book up down kw ≡ true → SaidBy (refused InjectionOutside) r
   twenty_first p u d n t =
       let c = by_range percent before.book (length before.flow) (length before.table) up down kw (passing _ _ _ p) u d n t in
-      subst (λ (o : Outcome). SaidBy o r) (sym c) (call_first e (λ q. refusal_stands 20 (c ∙ q)))
+      subst (λ (o : Answer). SaidBy o r) (sym c) (call_first e (λ q. refusal_stands InjectionOutside (c ∙ q)))

@@ -1,9 +1,7 @@
 -- A call that makes the case D, past its checks and lent a flow that fits, answers as any fresh screen of a book with that case.
 use mathlib.Core.Path.{◌≡◌, subst}
 use Prim.Native.Nat.{ℕ}
-use Rattle.answer.specs.declared.Outcome.{Outcome}
-use Rattle.answer.specs.declared.Outcome.TheVariants.{Accepted}
-use Rattle.answer.specs.declared.Answer.{Answer}
+use Rattle.answer.specs.Answer.{Answer, Accepted}
 use Rattle.answer.proofs.Said.{said_same}
 use Rattle.verdict.specs.Case.{Case, Posed, on, Fits}
 use Rattle.verdict.specs.Update.{Lent}
@@ -13,7 +11,7 @@ use Rattle.state.specs.Call.{OverloadSaid, Ends}
 use Rattle.state.proofs.OneOverload.{overloaded_same, fits_not_over}
 use Rattle.screen.specs.Promise.{screen_check, ScreenEnds, refuses, overloads, accepts}
 
-pub ends_fresh : {percent : ℕ} {check : Outcome} {C D : Case} {done : Type 0} {now after fresh left : Lent} {r s : Answer}
+pub ends_fresh : {percent : ℕ} {check : Answer} {C D : Case} {done : Type 0} {now after fresh left : Lent} {r s : Answer}
     → check ≡ Accepted → Fits C C.limit (on now.flow) → Posed D → (done → Fits D D.limit (on after.flow))
     → case_in percent fresh.book ≡ D → screen_check percent fresh ≡ Accepted
     → Ends check C D done now after r → ScreenEnds percent fresh left s → r ≡ s

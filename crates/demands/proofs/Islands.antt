@@ -7,8 +7,7 @@ use mathlib.Core.Logic.{◌↔◌}
 use Prim.Native.Nat.{ℕ, ◌<◌}
 use native.Mathlib.Omega.{arith}
 use lib.IntN.{ℤ, nat_abs}
-use Rattle.answer.specs.Answer.{accepted}
-use Rattle.answer.specs.declared.Answer.{Answer}
+use Rattle.answer.specs.Answer.{Answer, Accepted}
 use Rattle.layout.specs.Layout.{branches_in}
 use Rattle.verdict.specs.Case.{Case, on, Fits}
 use Rattle.verdict.specs.Island.{Joined}
@@ -24,7 +23,7 @@ use Rattle.demands.proofs.Demand2.{is_true, posed_case}
 use Rattle.demands.proofs.Demand3.{run_true, run_posed}
 
 -- ---- After an accepted screen.
-module _ {percent : ℕ} {before after : Lent} {r : Answer} (e : ScreenEnds percent before after r) (a : r ≡ accepted) (k : ℕ)
+module _ {percent : ℕ} {before after : Lent} {r : Answer} (e : ScreenEnds percent before after r) (a : r ≡ Accepted) (k : ℕ)
     (there : k < (case_in percent before.book).branches) where
   abbrev C : Case
   C = case_in percent before.book

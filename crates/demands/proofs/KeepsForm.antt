@@ -1,9 +1,10 @@
 -- A call leaves the book in the form that it was lent in, whatever it answers.
+use Rattle.answer.specs.declared.Refusal.TheVariants.{AlreadyOut, AlreadyIn}
 use mathlib.Core.Path.{◌≡◌, sym, ap, ◌∙◌}
 use Prim.Native.Nat.{ℕ}
 use native.Mathlib.Omega.{arith}
 use lib.ListN.{length}
-use Rattle.answer.specs.declared.Answer.{Answer}
+use Rattle.answer.specs.Answer.{Answer}
 use Rattle.layout.specs.Book.{Book}
 use Rattle.layout.specs.Layout.{form_in, book_of}
 use Rattle.layout.proofs.AcceptedWhere.{accepted_valid}
@@ -30,7 +31,7 @@ module _ {percent b : ℕ} {before after : Lent} {r : Answer} where
   take_keeps_form (unfit c n a k) = refused_kept k
   take_keeps_form (overloads c f o k) = refused_kept k
   take_keeps_form (accepts c f a o) =
-      let s = switchable before.book (length before.flow) (length before.table) b 0 10 c in
+      let s = switchable before.book (length before.flow) (length before.table) b 0 AlreadyOut c in
       ap form_in o.book_is ∙ form_kept before.book b 0 (omega arith) s.there (accepted_valid before.book s.passes.book).exact
 
   pub back_keeps_form : BackEnds percent b before after r → Kept before after
@@ -38,7 +39,7 @@ module _ {percent b : ℕ} {before after : Lent} {r : Answer} where
   back_keeps_form (unfit c n a k) = refused_kept k
   back_keeps_form (overloads c f o k) = refused_kept k
   back_keeps_form (accepts c f a o) =
-      let s = switchable before.book (length before.flow) (length before.table) b 1 17 c in
+      let s = switchable before.book (length before.flow) (length before.table) b 1 AlreadyIn c in
       ap form_in o.book_is ∙ form_kept before.book b 1 (omega arith) s.there (accepted_valid before.book s.passes.book).exact
 
 pub transfer_keeps_form : {percent up down kw : ℕ} {before after : Lent} {r : Answer} → TransferEnds percent up down kw before after r

@@ -1,5 +1,7 @@
 -- A book and the same book moved to another form: what a screen or a call on the moved one ends with, the one on the first may end with too, lent the
 -- same flow and table. So by uniqueness they answer alike.
+use Rattle.answer.specs.declared.Refusal.{Refusal}
+use Rattle.answer.specs.declared.Refusal.TheVariants.{AlreadyOut, AlreadyIn}
 use mathlib.Core.Path.{◌≡◌, refl, sym, ap, ◌∙◌, subst}
 use mathlib.Core.Bool.{Bool, true, false, ◌||◌}
 use mathlib.Core.List.{List}
@@ -8,11 +10,9 @@ use native.Mathlib.Omega.{arith}
 use borrow.Author.Tests.{leb-false}
 use lib.Dec.{leb, eqb}
 use lib.IntN.{ℤ, pos, nat_abs, ◌-ℤ◌}
-use Rattle.answer.specs.declared.Outcome.{Outcome}
-use Rattle.answer.specs.declared.Outcome.TheVariants.{Accepted}
-use Rattle.answer.specs.declared.Answer.{Answer}
+use Rattle.answer.specs.declared.Refusal.TheVariants.{NoTwoBuses, InjectionOutside}
+use Rattle.answer.specs.Answer.{Answer, Accepted, SaidBy, and_then, refuse_if}
 use Rattle.rows.proofs.Row.{either_false}
-use Rattle.answer.specs.Answer.{SaidBy, refuse_if, and_then}
 use Rattle.bits.specs.Field.{Bytes, set_bit}
 use Rattle.layout.specs.declared.Form.{Form}
 use Rattle.layout.specs.Layout.{buses_in, branches_in, injection_at, status_bit}
@@ -53,7 +53,7 @@ module _ (percent : ℕ) {bs : List ℕ} {f : Form} {room room' : List ℕ} (ok 
   unfolding lent_check
   check_moved flows bytes = rw (ok, m.still_accepted, count_moved) refl
 
-  branch_moved : (flows bytes b v n : ℕ) → branch_check percent moved flows bytes b v n ≡ branch_check percent bs flows bytes b v n
+  branch_moved : (flows bytes b v : ℕ) (n : Refusal) → branch_check percent moved flows bytes b v n ≡ branch_check percent bs flows bytes b v n
   unfolding branch_check
   branch_moved flows bytes b v n = rw (check_moved flows bytes, count_moved, m.says) refl
 
@@ -75,7 +75,7 @@ module _ (percent : ℕ) {bs : List ℕ} {f : Form} {room room' : List ℕ} (ok 
       (go (leb (buses_in bs) up || (leb (buses_in bs) down || eqb up down)) refl))
     where
       go : (t : Bool) → (leb (buses_in bs) up || (leb (buses_in bs) down || eqb up down)) ≡ t
-          → refuse_if t 19 (refuse_if (leaves_range moved up down kw) 20 Accepted) ≡ refuse_if t 19 (refuse_if (leaves_range bs up down kw) 20 Accepted)
+          → refuse_if t NoTwoBuses (refuse_if (leaves_range moved up down kw) InjectionOutside Accepted) ≡ refuse_if t NoTwoBuses (refuse_if (leaves_range bs up down kw) InjectionOutside Accepted)
       go true e = refl
       go false e =
           let a = either_false (leb (buses_in bs) up) _ e in
@@ -86,7 +86,7 @@ module _ (percent : ℕ) {bs : List ℕ} {f : Form} {room room' : List ℕ} (ok 
   module _ {flow : List ℤ} {table : List ℕ} {after : Lent} {r : Answer} where
     pub screen_moved : ScreenEnds percent (lent moved flow table) after r → ScreenEnds percent (lent bs flow table) (beside bs after) r
     screen_moved (refuses n a k) =
-        refuses (λ q. n (check_moved _ _ ∙ q)) (subst (λ (o : Outcome). SaidBy o r) (check_moved _ _) a) (ap (beside bs) k)
+        refuses (λ q. n (check_moved _ _ ∙ q)) (subst (λ (o : Answer). SaidBy o r) (check_moved _ _) a) (ap (beside bs) k)
     screen_moved (overloads c o k) = overloads (sym (check_moved _ _) ∙ c) (subst (λ (C : Case). OverloadSaid C r) (m.same_case percent) o)
         (ap (beside bs) k)
     screen_moved (accepts c a s) = accepts (sym (check_moved _ _) ∙ c) a (record {
@@ -104,12 +104,12 @@ module _ (percent : ℕ) {bs : List ℕ} {f : Form} {room room' : List ℕ} (ok 
     screens_alike x y = (screens_same x (screen_moved y)).answers
 
   -- ---- Calls that change the case. X is what the one on the moved book did, Y what the one on the first may then have done, with the book bs'.
-  ends_moved : {check check' : Outcome} {C C' D D' : Case} {X : Type 0} {flow : List ℤ} {table : List ℕ} {after : Lent} {r : Answer}
+  ends_moved : {check check' : Answer} {C C' D D' : Case} {X : Type 0} {flow : List ℤ} {table : List ℕ} {after : Lent} {r : Answer}
       (Y : List ℕ → Type 0)
       → check ≡ check' → C ≡ C' → D ≡ D' → (check' ≡ Accepted → X → (bs' : List ℕ) × Y bs')
       → Ends check C D X (lent moved flow table) after r → (bs' : List ℕ) × Ends check' C' D' (Y bs') (lent bs flow table) (beside bs' after) r
   ends_moved {r = r} Y e c d did (call.refuses n a k) =
-      (bs, call.refuses (λ q. n (e ∙ q)) (subst (λ (o : Outcome). SaidBy o r) e a) (ap (beside bs) k))
+      (bs, call.refuses (λ q. n (e ∙ q)) (subst (λ (o : Answer). SaidBy o r) e a) (ap (beside bs) k))
   ends_moved {flow = flow} Y e c d did (call.unfit q n a k) =
       (bs, call.unfit (sym e ∙ q) (λ h. n (subst (λ (C : Case). Fits C C.limit (on flow)) (sym c) h)) a (ap (beside bs) k))
   ends_moved {flow = flow} {r = r} Y e c d did (call.overloads q h o k) = (
@@ -122,7 +122,7 @@ module _ (percent : ℕ) {bs : List ℕ} {f : Form} {room room' : List ℕ} (ok 
       (x.0, call.accepts (sym e ∙ q) (subst (λ (C : Case). Fits C C.limit (on flow)) c h) a x.1)
 
   -- The book has its own status bit changed.
-  restated_at : (flows bytes b v n : ℕ) → v < 2 → branch_check percent bs flows bytes b v n ≡ Accepted
+  restated_at : (flows bytes b v : ℕ) (n : Refusal) → v < 2 → branch_check percent bs flows bytes b v n ≡ Accepted
       → Restated percent bs b v (set_bit bs (status_bit bs b) v)
   restated_at flows bytes b v n l c = restates percent bs b v ok (switchable bs flows bytes b v n c).there l
 
@@ -146,9 +146,9 @@ module _ (percent : ℕ) {bs : List ℕ} {f : Form} {room room' : List ℕ} (ok 
 
     pub take_moved : {b : ℕ} {r : Answer} → TakeEnds percent b (lent moved flow table) after r
         → (bs' : List ℕ) × TakeEnds percent b (lent bs flow table) (beside bs' after) r
-    take_moved {b} = ends_moved (λ bs'. TakenOut percent b (lent bs flow table) (beside bs' after)) (branch_moved _ _ b 0 10) (m.same_case percent)
+    take_moved {b} = ends_moved (λ bs'. TakenOut percent b (lent bs flow table) (beside bs' after)) (branch_moved _ _ b 0 AlreadyOut) (m.same_case percent)
         (ap (λ (C : Case). out C b) (m.same_case percent)) (λ c o.
-        let s = restated_at _ _ b 0 10 (omega arith) c in (
+        let s = restated_at _ _ b 0 AlreadyOut (omega arith) c in (
           set_bit bs (status_bit bs b) 0,
           record {
             book_is = refl;
@@ -166,10 +166,10 @@ module _ (percent : ℕ) {bs : List ℕ} {f : Form} {room room' : List ℕ} (ok 
 
     pub back_moved : {b : ℕ} {r : Answer} → BackEnds percent b (lent moved flow table) after r
         → (bs' : List ℕ) × BackEnds percent b (lent bs flow table) (beside bs' after) r
-    back_moved {b} = ends_moved (λ bs'. BroughtBack percent b (lent bs flow table) (beside bs' after)) (branch_moved _ _ b 1 17)
+    back_moved {b} = ends_moved (λ bs'. BroughtBack percent b (lent bs flow table) (beside bs' after)) (branch_moved _ _ b 1 AlreadyIn)
         (m.same_case percent)
         (ap (λ (C : Case). back C b) (m.same_case percent)) (λ c o.
-        let s = restated_at _ _ b 1 17 (omega arith) c in (
+        let s = restated_at _ _ b 1 AlreadyIn (omega arith) c in (
           set_bit bs (status_bit bs b) 1,
           record {
             book_is = refl;

@@ -6,9 +6,7 @@ use Prim.Native.Nat.{ℕ, ◌≤◌}
 use native.Mathlib.Omega.{arith}
 use lib.ListN.{length, take, drop}
 use lib.Seq.{take_at}
-use Rattle.answer.specs.declared.Outcome.TheVariants.{Accepted}
-use Rattle.answer.specs.declared.Answer.{Answer}
-use Rattle.answer.specs.Answer.{number_of, bare, accepted}
+use Rattle.answer.specs.Answer.{Answer, Accepted, number_of}
 use Rattle.layout.specs.declared.Form.{Form}
 use Rattle.layout.specs.declared.Form.TheVariants.{Old, New}
 use Rattle.layout.specs.Book.{Book, in_form}
@@ -45,7 +43,7 @@ unfolding case_of
 case_moved percent b f = refl
 
 module _ {bs : List ℕ} {f : Form} {out out' : List ℕ} {r : Answer} (d : BookMoved bs f out out' r) where
-  pub move_accepted : r ≡ accepted → MovedTo bs f out out'
+  pub move_accepted : r ≡ Accepted → MovedTo bs f out out'
   move_accepted a =
       let s = outcome_is _ r (move_answer d) a in
       let m = moves bs f (length out) s in
@@ -63,26 +61,26 @@ module _ {bs : List ℕ} {f : Form} {out out' : List ℕ} {r : Answer} (d : Book
 
   module _ (ok : check_of bs ≡ Accepted) (room : bytes_for f (buses_in bs) (branches_in bs) ≤ length out) where
     -- With room enough a move is accepted where the form holds the ratings ..
-    pub move_taken : would_lose f (ratings_differ (book_of bs)) ≡ false → r ≡ accepted
-    move_taken h = move_answer d ∙ ap bare (moving bs f (length out) (record { book = ok; holds = h; fits = room }))
+    pub move_taken : would_lose f (ratings_differ (book_of bs)) ≡ false → r ≡ Accepted
+    move_taken h = move_answer d ∙ (moving bs f (length out) (record { book = ok; holds = h; fits = room }))
 
     -- .. and refused with 18 where it doesn't.
-    pub move_18 : would_lose f (ratings_differ (book_of bs)) ≡ true → number_of r.outcome ≡ 18
+    pub move_18 : would_lose f (ratings_differ (book_of bs)) ≡ true → number_of r ≡ 18
     move_18 h = d.answer.number_is ∙ sym (ap number_of (by_ratings bs f (length out) ok _ _ (sym h) refl refl))
 
     -- So every book moves up ..
-    pub moves_up : f ≡ New → r ≡ accepted
+    pub moves_up : f ≡ New → r ≡ Accepted
     moves_up e = move_taken (equal_holds f (book_of bs) (λ o. let z : ◌≡◌ {A = ℕ} 0 1 = cc in absurd (omega arith)))
 
     -- .. and down exactly if its ratings are equal on every branch.
-    pub moves_down : Equal (book_of bs) → r ≡ accepted
+    pub moves_down : Equal (book_of bs) → r ≡ Accepted
     moves_down e = move_taken (equal_holds f (book_of bs) (λ _. e))
 
-    pub down_equal : f ≡ Old → r ≡ accepted → Equal (book_of bs)
+    pub down_equal : f ≡ Old → r ≡ Accepted → Equal (book_of bs)
     down_equal o a = equal_ratings (book_of bs) (rw o at (moves bs f (length out) (outcome_is _ r (move_answer d) a)).holds)
 
     -- A book already in that form comes back unchanged.
-    pub move_same : form_in bs ≡ f → (r ≡ accepted) × (out' ≡ bs ++ drop (length bs) out)
+    pub move_same : form_in bs ≡ f → (r ≡ Accepted) × (out' ≡ bs ++ drop (length bs) out)
     move_same e =
         let a = move_taken (rw (← e) (own_holds bs ok)) in
         let same : moved_bytes bs f ≡ bs = rw (← e) (encode_same bs d.bytes (accepted_valid bs ok)) in
@@ -94,9 +92,9 @@ up_equal bs ok o = (accepted_well bs ok).one_figure (form_of_lem bs ∙ o)
 
 -- ---- There and back: up and down again gives the first bytes, and so does down and up where down is accepted.
 pub there_and_back : {bs : List ℕ} {f : Form} {out out' more more' : List ℕ} {r s : Answer}
-    → BookMoved bs f out out' r → r ≡ accepted → length bs ≤ length more
+    → BookMoved bs f out out' r → r ≡ Accepted → length bs ≤ length more
     → BookMoved (take (bytes_for f (buses_in bs) (branches_in bs)) out') (form_in bs) more more' s
-    → (s ≡ accepted) × (more' ≡ bs ++ drop (length bs) more)
+    → (s ≡ Accepted) × (more' ≡ bs ++ drop (length bs) more)
 there_and_back {bs} {f} {out} {out'} {more} {more'} {r} {s} d a room e =
     let t = move_accepted d a in
     let q = moves bs f (length out) (outcome_is _ r (move_answer d) a) in

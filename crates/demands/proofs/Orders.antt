@@ -13,9 +13,7 @@ use lib.ListN.{length}
 use Rattle.rows.specs.Bit.{bit_at, has}
 use Rattle.rows.specs.Sum.{Group, differ}
 use Rattle.rows.proofs.Row.{either_false}
-use Rattle.answer.specs.Answer.{accepted}
-use Rattle.answer.specs.declared.Outcome.TheVariants.{Accepted}
-use Rattle.answer.specs.declared.Answer.{Answer}
+use Rattle.answer.specs.Answer.{Answer, Accepted}
 use Rattle.layout.specs.Layout.{branches_in, status_bit}
 use Rattle.layout.specs.Check.{check_of}
 use Rattle.layout.proofs.Statuses.{ButStatus, same_statuses}
@@ -45,16 +43,16 @@ use Rattle.demands.proofs.Switchings.{turn_awaits, turn_passes, await_next}
 -- Where a true table stands, an outage of a branch in service is accepted exactly if the base excess without it is 0.
 pub take_exactly : {percent b : ℕ} {before after : Lent} {r : Answer} → Stands percent before → b < branches_in before.book
     → (case_in percent before.book).served b ≡ true
-    → TakeEnds percent b before after r → (r ≡ accepted) ↔ Spare (case_in percent before.book) b
+    → TakeEnds percent b before after r → (r ≡ Accepted) ↔ Spare (case_in percent before.book) b
 take_exactly {percent} {b} {before} {after} {r} s there on_now e = (spared, λ h. go h e)
   where
     C : Case
     C = case_in percent before.book
 
-    spared : r ≡ accepted → Spare C b
+    spared : r ≡ Accepted → Spare C b
     spared a = fits_none (out C b) (on after.flow) (posed_status C b false (posed_passed (stands_passed s))) (take_done e a).took.updated.fits
 
-    go : Spare C b → TakeEnds percent b before after r → r ≡ accepted
+    go : Spare C b → TakeEnds percent b before after r → r ≡ Accepted
     go h (refuses n a k) = absurd (n (taking _ _ _ b (record { passes = stands_passed s; there = there; in_service = on_now })))
     go h (unfit c n a k) = absurd (n s.table_true.fits)
     go h (overloads c f o k) = absurd (never_overload (out C b) _ _ h o.overload)
@@ -64,7 +62,7 @@ take_exactly {percent} {b} {before} {after} {r} s there on_now e = (spared, λ h
 first_outage : {percent b : ℕ} {before : Lent} (T : Group) (u : Step) (ts : List Step) → Stands percent before → b < branches_in before.book
     → (case_in percent before.book).served b ≡ true
     → TakeEnds percent b before u.left u.answer
-    → (u.answer ≡ accepted → InFull ts ↔ NoExcess (out_all (case_in percent u.left.book) T))
+    → (u.answer ≡ Accepted → InFull ts ↔ NoExcess (out_all (case_in percent u.left.book) T))
     → InFull (u ∷ ts) ↔ NoExcess (out_all (case_in percent before.book) (λ k. eqb k b || T k))
 first_outage {percent} {b} {before} T u ts s there on_now e rest = (
   λ full. subst NoExcess (same full.0) ((rest full.0).0 full.1),
@@ -74,10 +72,10 @@ first_outage {percent} {b} {before} T u ts s there on_now e rest = (
     C : Case
     C = case_in percent before.book
 
-    same : u.answer ≡ accepted → out_all (case_in percent u.left.book) T ≡ out_all C (λ k. eqb k b || T k)
+    same : u.answer ≡ Accepted → out_all (case_in percent u.left.book) T ≡ out_all C (λ k. eqb k b || T k)
     same taken = ap (λ (D : Case). out_all D T) (take_done e taken).took.case_is ∙ sym (out_all_next C b T)
 
-    accepted_then : NoExcess (out_all C (λ k. eqb k b || T k)) → u.answer ≡ accepted
+    accepted_then : NoExcess (out_all C (λ k. eqb k b || T k)) → u.answer ≡ Accepted
     accepted_then h = (take_exactly s there on_now e).1 (out_all_none (out C b) T (subst NoExcess (out_all_next C b T) h))
 
 -- A list of one kind begins with one of that kind.

@@ -6,8 +6,7 @@ use mathlib.Core.List.{List}
 use Prim.Native.Nat.{ℕ, ◌<◌}
 use native.Mathlib.Omega.{arith}
 use Rattle.rows.specs.Row.{nth}
-use Rattle.answer.specs.Answer.{accepted}
-use Rattle.answer.specs.declared.Answer.{Answer}
+use Rattle.answer.specs.Answer.{Answer, Accepted}
 use Rattle.bits.specs.Field.{set_bit}
 use Rattle.bits.proofs.Again.{set_bit_again}
 use Rattle.layout.specs.Layout.{branches_in, status_bit}
@@ -28,7 +27,7 @@ use Rattle.demands.proofs.Returns.{stands_returns}
 
 -- What a call leaves that undoes the one before it.
 pub record Undone (percent : ℕ) (before after : Lent) (s : Answer) : Type 0 where
-  pub goes_back : s ≡ accepted
+  pub goes_back : s ≡ Accepted
   pub same_book : after.book ≡ before.book
   pub table_true : TrueTable (case_in percent before.book) after.flow after.table
   -- bytes 0 to 19: verdict, shortage and group
@@ -51,7 +50,7 @@ book_again {percent} {before} {mid} {after} {b} d e =
 -- From any true table.
 pub out_and_back : {percent : ℕ} {before mid after : Lent} {b : ℕ} {r s : Answer}
     → TrueTable (case_in percent before.book) before.flow before.table
-    → TakeEnds percent b before mid r → r ≡ accepted → BackEnds percent b mid after s → Undone percent before after s
+    → TakeEnds percent b before mid r → r ≡ Accepted → BackEnds percent b mid after s → Undone percent before after s
 out_and_back {percent} {before} {mid} {after} {b} {r} {s} t e a f =
     let bs = before.book in
     let d = take_done e a in

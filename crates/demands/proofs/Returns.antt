@@ -6,8 +6,7 @@ use Prim.Native.Nat.{ℕ, ◌*◌, ◌≤◌, ◌<◌}
 use native.Mathlib.Omega.{arith}
 use lib.ListN.{length}
 use Rattle.rows.specs.Row.{nth}
-use Rattle.answer.specs.Answer.{accepted}
-use Rattle.answer.specs.declared.Answer.{Answer}
+use Rattle.answer.specs.Answer.{Answer, Accepted}
 use Rattle.bits.specs.Field.{set_bit}
 use Rattle.layout.specs.Layout.{branches_in, status_bit}
 use Rattle.verdict.specs.Case.{Case}
@@ -22,7 +21,7 @@ use Rattle.demands.proofs.Ends.{back_done, back_accepted}
 use Rattle.demands.proofs.Demand3.{Stands, stands_passed, run_stands, run_screens, run_fresh}
 
 -- ---- An accepted return from any table.
-module _ {percent : ℕ} {before after : Lent} {b : ℕ} {r : Answer} (e : BackEnds percent b before after r) (a : r ≡ accepted) where
+module _ {percent : ℕ} {before after : Lent} {b : ℕ} {r : Answer} (e : BackEnds percent b before after r) (a : r ≡ Accepted) where
   -- No flow changes.
   pub return_flow : after.flow ≡ before.flow
   return_flow = (back_done e a).brought.flow_is
@@ -50,16 +49,16 @@ module _ {percent : ℕ} {before after : Lent} {b : ℕ} {r : Answer} (e : BackE
 -- A return of a branch out of service is accepted where a true table stands.
 pub stands_returns : {percent : ℕ} {now after : Lent} {b : ℕ} {r : Answer} → Stands percent now → b < branches_in now.book
     → (case_in percent now.book).served b ≡ false
-    → BackEnds percent b now after r → r ≡ accepted
+    → BackEnds percent b now after r → r ≡ Accepted
 stands_returns s there off = back_accepted (record { passes = stands_passed s; there = there; out_now = off }) s.table_true.fits
 
 -- ---- A return in a run.
 module _ {percent : ℕ} {now : Lent} (run : Run percent now) {after : Lent} {b : ℕ} {r : Answer} (e : BackEnds percent b now after r) where
   -- A branch out of service always comes back.
-  pub return_accepted : b < branches_in now.book → (case_in percent now.book).served b ≡ false → r ≡ accepted
+  pub return_accepted : b < branches_in now.book → (case_in percent now.book).served b ≡ false → r ≡ Accepted
   return_accepted there off = stands_returns (run_stands run) there off e
 
-  module _ (a : r ≡ accepted) where
+  module _ (a : r ≡ Accepted) where
     -- What the return leaves is a run again.
     pub return_joins : Run percent after
     return_joins = returned b run e a
@@ -71,10 +70,10 @@ module _ {percent : ℕ} {now : Lent} (run : Run percent now) {after : Lent} {b 
       same_book = with_it ∙ sym (back_done e a).brought.book_is
 
       -- a fresh screen that is lent enough isn't refused
-      pub return_screens : branches_in now.book ≤ length fresh.flow → 52 * branches_in now.book ≤ length fresh.table → s ≡ accepted
+      pub return_screens : branches_in now.book ≤ length fresh.flow → 52 * branches_in now.book ≤ length fresh.table → s ≡ Accepted
       return_screens l m = run_screens return_joins same_book f (omega (arith, return_count e a)) (omega (arith, return_count e a))
 
       -- and shows the same of every branch
-      pub return_fresh : s ≡ accepted → (k : ℕ) → k < (case_in percent now.book).branches → (j : ℕ) → j < 20
+      pub return_fresh : s ≡ Accepted → (k : ℕ) → k < (case_in percent now.book).branches → (j : ℕ) → j < 20
           → nth (record_at after.table k) j ≡ nth (record_at left.table k) j
       return_fresh q k l = run_fresh return_joins same_book f q k (omega (arith, return_branches e a))

@@ -7,10 +7,7 @@ use borrow.Author.Tests.{eq-eqb}
 use lib.IntN.{ℤ, pos}
 use lib.ListN.{length, take, drop, length-append, get_or-append}
 use lib.Seq.{take_at}
-use Rattle.answer.specs.declared.Outcome.{Outcome}
-use Rattle.answer.specs.declared.Outcome.TheVariants.{Accepted}
-use Rattle.answer.specs.declared.Answer.{Answer}
-use Rattle.answer.specs.Answer.{bare, accepted}
+use Rattle.answer.specs.Answer.{Answer, Accepted}
 use Rattle.rows.specs.Row.{nth, up_to}
 use Rattle.rows.specs.Sum.{all}
 use Rattle.rows.proofs.Row.{length_up_to, get_d_up_to}
@@ -39,14 +36,14 @@ use Rattle.pack.proofs.WrittenOnce.{writable_well, long_encode}
 use Rattle.book.specs.Read.{BookRead}
 use Rattle.book.proofs.ReadOnce.{read_checked, readable, read_answer}
 
-pub outcome_is : (o : Outcome) (r : Answer) → r ≡ bare o → r ≡ accepted → o ≡ Accepted
-outcome_is o r e a = ap (λ (x : Answer). x.outcome) (sym e ∙ a)
+pub outcome_is : (o : Answer) (r : Answer) → r ≡ o → r ≡ Accepted → o ≡ Accepted
+outcome_is o r e a = ap (λ (x : Answer). x) (sym e ∙ a)
 
 -- ---- what was written is read
 
 -- What was packed into bs: the form, the counts and the power factor stand in its header, and the reader leaves the tables.
 pub record ReadBack (bs : List ℕ) (form : Form) (n m factor : ℕ) (inj old new : List ℤ) (bra old' new' : List ℕ) (r : Answer) : Type 0 where
-  pub taken : r ≡ accepted
+  pub taken : r ≡ Accepted
   pub form_is : form_in bs ≡ form
   pub buses_are : buses_in bs ≡ n
   pub count_is : branches_in bs ≡ m
@@ -74,14 +71,14 @@ module _ (form : Form) (n m factor : ℕ) (inj : List ℤ) (bra : List ℕ) (roo
   made_factor = ap (λ (x : Book). x.factor) (book_encode made well)
 
   read_made : (old new : List ℤ) (old' new' : List ℕ) (r : Answer) → n ≤ length old → fields form * m ≤ length old' → BookRead (encode made) old new old' new' r
-      → (r ≡ accepted) × (form_in (encode made) ≡ form) × (buses_in (encode made) ≡ n) × (branches_in (encode made) ≡ m) × (factor_in (encode made) ≡ factor)
+      → (r ≡ Accepted) × (form_in (encode made) ≡ form) × (buses_in (encode made) ≡ n) × (branches_in (encode made) ≡ m) × (factor_in (encode made) ≡ factor)
       × (new ≡ take n inj ++ drop n old) × (new' ≡ take (fields form * m) bra ++ drop (fields form * m) old')
   read_made old new old' new' r u v d =
       let o : form_in (encode made) ≡ form = form_encode made well ∙ form_from form n m factor inj bra in
       let p : buses_in (encode made) ≡ n = buses_encode made well ∙ buses_from form n m factor inj bra in
       let q : branches_in (encode made) ≡ m = count_encode made well ∙ count_from form n m factor inj bra in
       let s = readable (encode made) (length old) (length old') (valid_accepted (encode made) (valid_encode made well)) (omega arith) (rw (o, q) v) in (
-        read_answer d ∙ ap bare s,
+        read_answer d ∙ s,
         o,
         p,
         q,
@@ -92,7 +89,7 @@ module _ (form : Form) (n m factor : ℕ) (inj : List ℤ) (bra : List ℕ) (roo
 
 -- The writer's output in either form, read into tables that are long enough, gives the form asked for and the writer's counts, power factor and tables back.
 pub write_read : (form : Form) (n m factor : ℕ) (inj : List ℤ) (bra out out' : List ℕ) (r : Answer) (old new : List ℤ) (old' new' : List ℕ) (r' : Answer)
-    → BookWritten form n m factor inj bra out out' r → r ≡ accepted → n ≤ length old → fields form * m ≤ length old'
+    → BookWritten form n m factor inj bra out out' r → r ≡ Accepted → n ≤ length old → fields form * m ≤ length old'
     → BookRead (take (bytes_for form n m) out') old new old' new' r' → ReadBack (take (bytes_for form n m) out') form n m factor inj old new bra old' new' r'
 write_read form n m factor inj bra out out' r old new old' new' r' w a u v d =
     let s = outcome_is _ r (write_answer form n m factor inj bra w) a in
@@ -163,12 +160,12 @@ module _ (bs : List ℕ) (v : Valid bs) (inj : List ℤ) (bra : List ℕ) (rest 
   }
 
 pub record WrittenBack (bs out out' : List ℕ) (r : Answer) : Type 0 where
-  pub taken : r ≡ accepted
+  pub taken : r ≡ Accepted
   pub bytes : out' ≡ bs ++ drop (length bs) out
 
 -- The reader's tables, written with the book's form, counts and factor into a row that is long enough, give the book back.
 pub read_write : (bs : List ℕ) (old inj : List ℤ) (old' bra : List ℕ) (r : Answer) (out out' : List ℕ) (r' : Answer)
-    → BookRead bs old inj old' bra r → r ≡ accepted → length bs ≤ length out
+    → BookRead bs old inj old' bra r → r ≡ Accepted → length bs ≤ length out
     → BookWritten (form_in bs) (buses_in bs) (branches_in bs) (factor_in bs) inj bra out out' r' → WrittenBack bs out out' r'
 read_write bs old inj old' bra r out out' r' d a l w =
     let s = outcome_is _ r (read_answer d) a in
@@ -177,4 +174,4 @@ read_write bs old inj old' bra r out out' r' d a l w =
     let b-are = rw s at d.branches_left in
     let g = accepted_write _ _ _ _ inj bra (length out) (read_writable bs v inj bra _ _ i-are b-are (length out) l) in
     let e = rw (g, book_read bs v inj bra _ _ i-are b-are, encode_valid bs d.bytes v, ← v.exact) at w.left in
-    record { taken = write_answer _ _ _ _ _ _ w ∙ ap bare g; bytes = e }
+    record { taken = write_answer _ _ _ _ _ _ w ∙ g; bytes = e }

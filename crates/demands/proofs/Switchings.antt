@@ -10,8 +10,7 @@ use lib.Dec.{eqb}
 use lib.ListN.{length}
 use Rattle.rows.specs.Sum.{differ}
 use Rattle.rows.proofs.Row.{or_true, and_false}
-use Rattle.answer.specs.Answer.{accepted}
-use Rattle.answer.specs.declared.Answer.{Answer}
+use Rattle.answer.specs.Answer.{Answer, Accepted}
 use Rattle.bits.specs.Field.{set_bit}
 use Rattle.layout.specs.Layout.{branches_in, status_bit}
 use Rattle.layout.proofs.Statuses.{ButStatus, but_itself, but_then, but_set}
@@ -48,7 +47,7 @@ done_by {b = b} {before = before} n two p l o c e = record {
 }
 
 module _ {percent : ℕ} (b : ℕ) {before after : Lent} {r : Answer} where
-  pub switch_done : (v : Bool) → SwitchEnds percent b v before after r → r ≡ accepted → SwitchDone percent b v before after
+  pub switch_done : (v : Bool) → SwitchEnds percent b v before after r → r ≡ Accepted → SwitchDone percent b v before after
   switch_done false e a =
       let d = take_done e a in
       done_by 0 (omega arith) d.passes.passes d.passes.there d.passes.in_service d.took.case_is d.took.book_is
@@ -56,12 +55,12 @@ module _ {percent : ℕ} (b : ℕ) {before after : Lent} {r : Answer} where
       let d = back_done e a in
       done_by 1 (omega arith) d.passes.passes d.passes.there d.passes.out_now d.brought.case_is d.brought.book_is
 
-  pub switch_stands : (v : Bool) → Stands percent before → SwitchEnds percent b v before after r → r ≡ accepted → Stands percent after
+  pub switch_stands : (v : Bool) → Stands percent before → SwitchEnds percent b v before after r → r ≡ Accepted → Stands percent after
   switch_stands false s e a = take_stands s e a
   switch_stands true s e a = back_stands s e a
 
   -- Accepted in a run, it joins it.
-  pub switch_joins : (v : Bool) → Run percent before → SwitchEnds percent b v before after r → r ≡ accepted → Run percent after
+  pub switch_joins : (v : Bool) → Run percent before → SwitchEnds percent b v before after r → r ≡ Accepted → Run percent after
   switch_joins false run e a = taken b run e a
   switch_joins true run e a = returned b run e a
 

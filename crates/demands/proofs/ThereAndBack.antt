@@ -7,8 +7,7 @@ use native.Mathlib.Omega.{arith}
 use lib.IntN.{ℤ, pos, ◌+ℤ◌, ◌-ℤ◌}
 use lib.ListN.{length, get_or, set}
 use lib.Seq.{get_or-set_other}
-use Rattle.answer.specs.Answer.{accepted}
-use Rattle.answer.specs.declared.Answer.{Answer}
+use Rattle.answer.specs.Answer.{Answer, Accepted}
 use Rattle.quantity.proofs.Parts.{by_parts, add_parts, minus_parts}
 use Rattle.layout.specs.Book.{Book, injection, with_injection}
 use Rattle.layout.specs.Layout.{buses_in, injection_at, book_of}
@@ -38,7 +37,7 @@ transfer_accepted : {percent up down kw : ℕ} {before after : Lent} {r : Answer
     → Movable percent before.book (length before.flow) (length before.table) up down kw
     → Fits (case_in percent before.book) (case_in percent before.book).limit (on before.flow)
     → (OverloadSaid (shifted (case_in percent before.book) up down kw) r → ⊥)
-    → TransferEnds percent up down kw before after r → r ≡ accepted
+    → TransferEnds percent up down kw before after r → r ≡ Accepted
 transfer_accepted {up = up} {down = down} {kw = kw} m f n (refuses c a k) = absurd (c (moving _ _ _ up down kw m))
 transfer_accepted m f n (unfit c g a k) = absurd (g f)
 transfer_accepted m f n (overloads c g o k) = absurd (n o)
@@ -66,7 +65,7 @@ down_up : (x : ℤ) (kw : ℕ) → (x -ℤ pos kw) +ℤ pos kw ≡ x
 down_up x kw = by_parts _ _ (omega (arith, add_parts (x -ℤ pos kw) (pos kw), minus_parts x (pos kw)))
 
 -- ---- After an accepted move.
-module _ {percent up down kw : ℕ} {before mid : Lent} {r : Answer} (e : TransferEnds percent up down kw before mid r) (a : r ≡ accepted) where
+module _ {percent up down kw : ℕ} {before mid : Lent} {r : Answer} (e : TransferEnds percent up down kw before mid r) (a : r ≡ Accepted) where
   abbrev bs : List ℕ
   bs = before.book
 
@@ -139,7 +138,7 @@ module _ {percent up down kw : ℕ} {before mid : Lent} {r : Answer} (e : Transf
 -- From any true table.
 pub load_there_and_back : {percent up down kw : ℕ} {before mid after : Lent} {r s : Answer}
     → TrueTable (case_in percent before.book) before.flow before.table
-    → TransferEnds percent up down kw before mid r → r ≡ accepted → TransferEnds percent down up kw mid after s → Undone percent before after s
+    → TransferEnds percent up down kw before mid r → r ≡ Accepted → TransferEnds percent down up kw mid after s → Undone percent before after s
 load_there_and_back {percent} {up} {down} {kw} {before} {mid} {after} {r} {s} t e a f =
     let bs = before.book in
     let m = stands e a t in

@@ -12,9 +12,7 @@ use lib.ListN.{length}
 use lib.Seq.{ext_get_or}
 use Rattle.rows.specs.Row.{nth}
 use Rattle.rows.specs.Bit.{bit_at}
-use Rattle.answer.specs.Answer.{number_of, accepted}
-use Rattle.answer.specs.declared.Outcome.TheVariants.{Accepted}
-use Rattle.answer.specs.declared.Answer.{Answer}
+use Rattle.answer.specs.Answer.{Answer, Accepted, number_of}
 use Rattle.quantity.proofs.Parts.{by_parts, apart_at_most}
 use Rattle.layout.specs.Layout.{buses_in, branches_in}
 use Rattle.layout.proofs.InjectionsChanged.{BesideBus, injections_long, injections_elsewhere}
@@ -40,7 +38,7 @@ pub same_of : (x y : ℤ) → nat_abs (x -ℤ y) ≤ 0 → x ≡ y
 same_of x y h = let w = (apart_at_most x y 0).0 h in by_parts x y (omega (arith, w.0, w.1))
 
 -- ---- An accepted move from any table.
-module _ {percent up down kw : ℕ} {before after : Lent} {r : Answer} (e : TransferEnds percent up down kw before after r) (a : r ≡ accepted) where
+module _ {percent up down kw : ℕ} {before after : Lent} {r : Answer} (e : TransferEnds percent up down kw before after r) (a : r ≡ Accepted) where
   abbrev C : Case
   C = case_in percent before.book
 
@@ -96,22 +94,22 @@ module _ {percent up down kw : ℕ} {before after : Lent} {r : Answer} (e : Tran
 -- ---- A move in a run.
 -- What an accepted one leaves is a run again.
 pub transfer_joins : {percent up down kw : ℕ} {now after : Lent} {r : Answer} → Run percent now → TransferEnds percent up down kw now after r
-    → r ≡ accepted → Run percent after
+    → r ≡ Accepted → Run percent after
 transfer_joins {up = up} {down = down} {kw = kw} run e a = moved up down kw run e a
 
 module _ {percent : ℕ} {now : Lent} (run : Run percent now) {after : Lent} {up down kw : ℕ} {r : Answer}
     (e : TransferEnds percent up down kw now after r)
     {fresh left : Lent} {s : Answer} (changed : fresh.book ≡ shifted_bytes now.book up down kw) (f : ScreenEnds percent fresh left s) where
-  module _ (a : r ≡ accepted) where
+  module _ (a : r ≡ Accepted) where
     same_book : fresh.book ≡ after.book
     same_book = changed ∙ sym (transfer_done e a).moved.book_is
 
     -- Every verdict, shortage and group equals that of any fresh screen of the changed book: one that is lent enough isn't refused ..
-    pub transfer_screens : branches_in now.book ≤ length fresh.flow → 52 * branches_in now.book ≤ length fresh.table → s ≡ accepted
+    pub transfer_screens : branches_in now.book ≤ length fresh.flow → 52 * branches_in now.book ≤ length fresh.table → s ≡ Accepted
     transfer_screens l m = run_screens (transfer_joins run e a) same_book f (omega (arith, transfer_count e a)) (omega (arith, transfer_count e a))
 
     -- .. and shows the same of every branch.
-    pub transfer_shows : s ≡ accepted → (k : ℕ) → k < (case_in percent now.book).branches → (j : ℕ) → j < 20
+    pub transfer_shows : s ≡ Accepted → (k : ℕ) → k < (case_in percent now.book).branches → (j : ℕ) → j < 20
         → nth (record_at after.table k) j ≡ nth (record_at left.table k) j
     transfer_shows q k l = run_fresh (transfer_joins run e a) same_book f q k (omega (arith, transfer_branches e a))
 
@@ -142,5 +140,5 @@ module _ {percent : ℕ} {now : Lent} (run : Run percent now) {after : Lent} {up
     pub transfer_fresh : r ≡ s
     transfer_fresh = ends_fresh (moving _ _ _ up down kw may) (run_fits run) (movable_posed may) (λ o. o.updated.fits) same_case screen_checked e f
 
-    pub transfer_refused : (number_of r.outcome ≡ 12) ↔ (number_of s.outcome ≡ 12)
+    pub transfer_refused : (number_of r ≡ 12) ↔ (number_of s ≡ 12)
     transfer_refused = (λ n. sym (number_of_lem transfer_fresh) ∙ n, λ n. number_of_lem transfer_fresh ∙ n)

@@ -9,8 +9,7 @@ use borrow.Author.Tests.{ne_eqb}
 use lib.Dec.{eqb}
 use Rattle.rows.specs.Sum.{differ}
 use Rattle.rows.proofs.Row.{and_false}
-use Rattle.answer.specs.Answer.{accepted}
-use Rattle.answer.specs.declared.Answer.{Answer}
+use Rattle.answer.specs.Answer.{Answer, Accepted}
 use Rattle.layout.specs.Layout.{branches_in}
 use Rattle.verdict.specs.Case.{Case, out}
 use Rattle.verdict.specs.Excess.{Spare}
@@ -59,7 +58,7 @@ module _ (percent b c : ℕ) (before one both other too : Lent) (r s r' s' : Ans
 
   module _ (v w : Bool) (e : SwitchEnds percent b v before one r) (f : SwitchEnds percent c w one both s)
       (g : SwitchEnds percent c w before other r') (h : SwitchEnds percent b v other too s') where
-    left_same : (r ≡ accepted) × (s ≡ accepted) → (r' ≡ accepted) × (s' ≡ accepted) → ShowSame percent both too
+    left_same : (r ≡ Accepted) × (s ≡ Accepted) → (r' ≡ Accepted) × (s' ≡ Accepted) → ShowSame percent both too
     left_same p q =
         order_same percent before before refl t t (other_way b c v w apart) calls turned (e, (f, tt)) (g, (h, tt))
         (p.0, (p.1, tt)) (q.0, (q.1, tt))
@@ -70,7 +69,7 @@ module _ (percent b c : ℕ) (before one both other too : Lent) (r s r' s' : Ans
       → EitherOrder percent r s r' s' both too
   either_order v e f g h =
       let full = both_or_neither percent before before refl t t (other_way b c v v apart) calls turned (e, (f, tt)) (g, (h, tt)) v (none v) in
-      let there : (r ≡ accepted) × (s ≡ accepted) → (r' ≡ accepted) × (s' ≡ accepted) = λ p. let y = full.0 (p.0, (p.1, tt)) in (y.0, y.1.0) in
+      let there : (r ≡ Accepted) × (s ≡ Accepted) → (r' ≡ Accepted) × (s' ≡ Accepted) = λ p. let y = full.0 (p.0, (p.1, tt)) in (y.0, y.1.0) in
       record {
         both_or_neither = (there, λ p. let y = full.1 (p.0, (p.1, tt)) in (y.0, y.1.0));
         same = λ p. left_same v v e f g h p (there p);
@@ -95,13 +94,13 @@ module _ {percent : ℕ} {before one both other too : Lent} {r s r' s' : Answer}
   -- ---- An outage and a return, where both orders are accepted.
   pub outage_and_return : TakeEnds percent b before one r → BackEnds percent c one both s → BackEnds percent c before other r'
       → TakeEnds percent b other too s'
-      → (r ≡ accepted) × (s ≡ accepted) → (r' ≡ accepted) × (s' ≡ accepted) → ShowSame percent both too
+      → (r ≡ Accepted) × (s ≡ Accepted) → (r' ≡ Accepted) × (s' ≡ Accepted) → ShowSame percent both too
   outage_and_return e f g h = left_same percent b c before one both other too r s r' s' apart t false true e f g h
 
   -- An outage that is accepted before the return is accepted after it; the other way round it needn't be (`only_after_return` of the examples).
   pub return_first : TakeEnds percent b before one r → BackEnds percent c one both s → BackEnds percent c before other r'
       → TakeEnds percent b other too s'
-      → (r ≡ accepted) × (s ≡ accepted) → (r' ≡ accepted) × (s' ≡ accepted)
+      → (r ≡ Accepted) × (s ≡ Accepted) → (r' ≡ Accepted) × (s' ≡ Accepted)
   return_first e f g h p = (returned, (take_exactly (back_stands stands g returned) there on_now h).1 spared)
     where
       C : Case
@@ -117,7 +116,7 @@ module _ {percent : ℕ} {before one both other too : Lent} {r s r' s' : Answer}
       awaits : SwitchDone percent c true one both
       awaits = switch_done c true f p.1
 
-      returned : r' ≡ accepted
+      returned : r' ≡ Accepted
       returned =
           stands_returns stands (omega (arith, out_first.but_status.count, awaits.there))
           (sym (left_served out_first c (λ q. apart (sym q))) ∙ awaits.other) g

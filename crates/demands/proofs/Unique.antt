@@ -8,7 +8,7 @@ use native.Mathlib.Omega.{arith}
 use lib.IntN.{ℤ, pos}
 use Rattle.rows.specs.Row.{nth}
 use Rattle.rows.proofs.Sum.{side, below, equal, above}
-use Rattle.answer.specs.declared.Answer.{Answer}
+use Rattle.answer.specs.Answer.{Answer}
 use Rattle.verdict.specs.Case.{Case, on, Fits}
 use Rattle.verdict.specs.Record.{record_at, verdict_in, names, TrueRecord}
 use Rattle.verdict.specs.Update.{Lent, Beyond}

@@ -2,8 +2,7 @@
 use mathlib.Core.Path.{◌≡◌, sym, ap, ◌∙◌}
 use mathlib.Core.List.{List}
 use Prim.Native.Nat.{ℕ}
-use Rattle.answer.specs.Answer.{number_of, shortage_of, place_of, item_of, field_of}
-use Rattle.answer.specs.declared.Answer.{Answer}
+use Rattle.answer.specs.Answer.{Answer, field_of, item_of, number_of, place_of, shortage_of, group_of}
 use Rattle.verdict.specs.Update.{Lent}
 use Rattle.screen.specs.Promise.{ScreenEnds}
 use Rattle.outage.specs.Promise.{TakeEnds}
@@ -38,14 +37,14 @@ module _ {E F : Answer → Type 0} (same : Answer → Answer → Type 0)
   parts_same x y =
       let s = sames x.answer y.answer x.ended y.ended in
       let e = answers x.answer y.answer s in
-      let p = sym x.said.place_is ∙ ap (λ (a : Answer). place_of a.outcome) e ∙ y.said.place_is in
+      let p = sym x.said.place_is ∙ ap (λ (a : Answer). place_of a) e ∙ y.said.place_is in
       record {
         one = x.answer;
         two = y.answer;
         left = s;
-        numbers = sym x.said.number_is ∙ ap (λ (a : Answer). number_of a.outcome) e ∙ y.said.number_is;
-        shortages = sym x.said.shortage_is ∙ ap (λ (a : Answer). shortage_of a.outcome) e ∙ y.said.shortage_is;
-        groups = sym x.said.group_is ∙ ap (λ (a : Answer). a.group) e ∙ y.said.group_is;
+        numbers = sym x.said.number_is ∙ ap (λ (a : Answer). number_of a) e ∙ y.said.number_is;
+        shortages = sym x.said.shortage_is ∙ ap (λ (a : Answer). shortage_of a) e ∙ y.said.shortage_is;
+        groups = sym x.said.group_is ∙ ap (λ (a : Answer). group_of a) e ∙ y.said.group_is;
         items = x.place_told.item_is ∙ ap item_of p ∙ sym y.place_told.item_is;
         fields = x.place_told.field_is ∙ ap field_of p ∙ sym y.place_told.field_is;
       }

@@ -9,10 +9,7 @@ use lib.IntN.{ℤ}
 use Rattle.rows.specs.Row.{member}
 use Rattle.rows.specs.Sum.{pick}
 use Rattle.rows.proofs.Sum.{over_same}
-use Rattle.answer.specs.Answer.{accepted}
-use Rattle.answer.specs.declared.Outcome.{Outcome}
-use Rattle.answer.specs.declared.Outcome.TheVariants.{Accepted}
-use Rattle.answer.specs.declared.Answer.{Answer}
+use Rattle.answer.specs.Answer.{Answer, Accepted}
 use Rattle.answer.proofs.Said.{said_same}
 use Rattle.verdict.specs.Case.{Case, Posed, out, on, Fits}
 use Rattle.verdict.specs.Record.{record_at, names, TrueTable}
@@ -63,7 +60,7 @@ module _ (C : Case) (L M : ℕ → Type 0) {before one two : Lent} where
       go (no n) (no m) = equal_alike C (Either L M) one two k (x.kept k l n ∙ sym (y.kept k l m))
 
   module _ (free agreed : ℕ → Type 0) {r s : Answer} where
-    pub renewed_same : r ≡ s → r ≡ accepted → one.book ≡ two.book → Renewed C L before one → Renewed C M before two
+    pub renewed_same : r ≡ s → r ≡ Accepted → one.book ≡ two.book → Renewed C L before one → Renewed C M before two
         → ((j : ℕ) → j < C.branches → (free j → ⊥) → on one.flow j ≡ on two.flow j)
         → ((k : ℕ) → k < C.branches → agreed k → Alike (FreeBit C (Either L M) one two k) (record_at one.table k) (record_at two.table k))
         → SameResult C free (Either L M) agreed one two r s
@@ -72,7 +69,7 @@ module _ (C : Case) (L M : ℕ → Type 0) {before one two : Lent} where
         record { answers = e; books = b; flows = flows_below C free z f; beyond = z; records = records; refused_same = λ n. absurd (n a) }
 
 -- Two ends of one call that makes the case D: X and Y are what an accepted one did.
-pub ends_same : {check : Outcome} (C D : Case) (free L M : ℕ → Type 0) {X Y : Type 0} {before one two : Lent} {r s : Answer}
+pub ends_same : {check : Answer} (C D : Case) (free L M : ℕ → Type 0) {X Y : Type 0} {before one two : Lent} {r s : Answer}
     → (check ≡ Accepted → Posed D)
     → (X → Renewed D L before one) → (Y → Renewed D M before two) → (X → Y → one.book ≡ two.book)
     → (X → Y → (j : ℕ) → j < D.branches → (free j → ⊥) → on one.flow j ≡ on two.flow j) → ((k : ℕ) → Dec (L k))
@@ -158,7 +155,7 @@ module _ {percent : ℕ} {before one two : Lent} {b : ℕ} where
 
     -- From a true table every record is so, whatever the two shortlists.
     pub calls_same_true : TrueTable (lent_case percent before) before.flow before.table → TakeEnds percent b before one r
-        → TakeEnds percent b before two s → r ≡ accepted
+        → TakeEnds percent b before two s → r ≡ Accepted
         → SameTaken percent before b Each one two r s
     calls_same_true t x y a =
         let e = (calls_same x y).answers in
@@ -193,7 +190,7 @@ module _ {percent : ℕ} {before one two : Lent} {b : ℕ} {r s : Taken} where
       same : r.answer ≡ s.answer
       same = (calls_same x.ends y.ends).answers
 
-      go : Dec (r.answer ≡ accepted) → r.judged ≡ s.judged
+      go : Dec (r.answer ≡ Accepted) → r.judged ≡ s.judged
       go (yes a) =
           judges_same _ before.table _ _ r.judged s.judged (listed? percent before b one.flow) agree (x.judges a)
           (y.judges (sym same ∙ a))

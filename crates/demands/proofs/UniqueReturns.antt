@@ -7,8 +7,7 @@ use Prim.Native.Nat.{ℕ}
 use lib.IntN.{ℤ, pos}
 use lib.Seq.{ext_get_or}
 use Rattle.rows.specs.Row.{member}
-use Rattle.answer.specs.Answer.{accepted}
-use Rattle.answer.specs.declared.Answer.{Answer}
+use Rattle.answer.specs.Answer.{Answer, Accepted}
 use Rattle.verdict.specs.Case.{Case, back, on}
 use Rattle.verdict.specs.Record.{record_at}
 use Rattle.verdict.specs.Update.{Lent}
@@ -74,6 +73,6 @@ returns_same {percent} {before} {one} {two} {b} {r} {s} x y = record {
         (λ o. o.renewed) (λ o. o.renewed) (λ o u. o.book_is ∙ sym u.book_is)
         (λ o u j l n. ap (λ (f : List ℤ). on f j) (o.flow_is ∙ sym u.flow_is)) (anew? before.table b) x y)
 
-    own : Dec (r ≡ accepted) → record_at one.table b ≡ record_at two.table b
+    own : Dec (r ≡ Accepted) → record_at one.table b ≡ record_at two.table b
     own (yes a) = return_own x a ∙ sym (return_own y (sym all.answers ∙ a))
     own (no n) = ap (λ (l : Lent). record_at l.table b) (all.refused_same n)

@@ -5,8 +5,7 @@ use mathlib.Core.List.{List}
 use Prim.Native.Nat.{ℕ, ◌+◌, ◌≤◌, ◌<◌}
 use native.Mathlib.Omega.{arith}
 use lib.IntN.{ℤ, nat_abs, ◌-ℤ◌}
-use Rattle.answer.specs.Answer.{accepted}
-use Rattle.answer.specs.declared.Answer.{Answer}
+use Rattle.answer.specs.Answer.{Answer, Accepted}
 use Rattle.quantity.proofs.Parts.{apart_at_most}
 use Rattle.verdict.specs.Case.{Case, shifted, on}
 use Rattle.verdict.specs.Record.{TrueTable}
@@ -70,7 +69,7 @@ module _ {percent up down kw : ℕ} {before one two : Lent} {r s : Answer} where
 
   -- From a true table every record is so, whatever the two shortlists.
   pub transfers_same_true : TrueTable (lent_case percent before) before.flow before.table → TransferEnds percent up down kw before one r
-      → TransferEnds percent up down kw before two s → r ≡ accepted
+      → TransferEnds percent up down kw before two s → r ≡ Accepted
       → SameMoved (moved_case percent before up down kw) before kw Each one two r s
   transfers_same_true t x y a =
       let D = moved_case percent before up down kw in
@@ -84,7 +83,7 @@ module _ {percent up down kw : ℕ} {before one two : Lent} {r s : Answer} where
       (shift_true (lent_case percent before) up down kw before two d'.posed_after t d'.moved.updated))
 
   -- The flows that two accepted moves leave are within twice kw of each other.
-  pub transfers_near : TransferEnds percent up down kw before one r → TransferEnds percent up down kw before two s → r ≡ accepted
+  pub transfers_near : TransferEnds percent up down kw before one r → TransferEnds percent up down kw before two s → r ≡ Accepted
       → (j : ℕ) → j < (lent_case percent before).branches → nat_abs (on one.flow j -ℤ on two.flow j) ≤ kw + kw
   transfers_near x y a j l =
       let d = transfer_done x a in

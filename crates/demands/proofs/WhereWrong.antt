@@ -1,4 +1,5 @@
 -- Where the book is wrong: each call passes on what the check of the fields says, and the place is that of the first broken rule.
+use Rattle.answer.specs.declared.Refusal.{Refusal}
 use mathlib.Core.Path.{◌≡◌, refl, sym, ap, subst, ◌∙◌}
 use mathlib.Core.Bool.{false, ◌||◌}
 use mathlib.Core.List.{List}
@@ -7,11 +8,7 @@ use native.Mathlib.Omega.{arith}
 use lib.Dec.{ltb, leb, eqb}
 use lib.IntN.{ℤ}
 use lib.ListN.{length}
-use Rattle.answer.specs.declared.Place.TheVariants.{Nowhere, At}
-use Rattle.answer.specs.declared.Outcome.{Outcome}
-use Rattle.answer.specs.declared.Outcome.TheVariants.{Accepted}
-use Rattle.answer.specs.declared.Answer.{Answer}
-use Rattle.answer.specs.Answer.{number_of, place_of, SaidBy, and_then}
+use Rattle.answer.specs.Answer.{Answer, Accepted, At, Nowhere, SaidBy, and_then, number_of, place_of, refused}
 use Rattle.answer.proofs.Refusals.{stands, if_nowhere, at_not_nowhere, placed_before}
 use Rattle.quantity.specs.Rating.{percent_out}
 use Rattle.layout.specs.declared.Form.{Form}
@@ -37,14 +34,14 @@ use Rattle.transfer.specs.Promise.{leaves_range, transfer_check, TransferEnds}
 use Rattle.demands.specs.WhereWrong.{Tells}
 
 -- ---- A check that begins with the book's own, and has no place but that one's.
-record Begins (bs : List ℕ) (check : Outcome) : Type 0 where
+record Begins (bs : List ℕ) (check : Answer) : Type 0 where
   whole : (check_of bs ≡ Accepted → ⊥) → check ≡ check_of bs
   its_place : {i j : ℕ} → place_of check ≡ At i j → check ≡ check_of bs
 
 begins_with : (bs : List ℕ) → Begins bs (check_of bs)
 begins_with bs = record { whole = λ n. refl; its_place = λ e. refl }
 
-begins_then : {bs : List ℕ} (o next : Outcome) → place_of next ≡ Nowhere → Begins bs o → Begins bs (and_then o next)
+begins_then : {bs : List ℕ} (o next : Answer) → place_of next ≡ Nowhere → Begins bs o → Begins bs (and_then o next)
 begins_then o next w b = record {
   whole = λ n. stands o next (λ e. n (sym (b.whole n) ∙ e)) ∙ b.whole n;
   its_place = λ e. let p = placed_before o next w e in p ∙ b.its_place (ap place_of (sym p) ∙ e);
@@ -54,13 +51,13 @@ module _ (bs : List ℕ) where
   read_begins : (i j : ℕ) → Begins bs (read_check bs i j)
   unfolding read_check
   read_begins i j =
-      begins_then (check_of bs) _ (if_nowhere (ltb i (buses_in bs) || ltb j (fields (form_in bs) * branches_in bs)) 8 Accepted refl) (begins_with bs)
+      begins_then (check_of bs) _ (if_nowhere (ltb i (buses_in bs) || ltb j (fields (form_in bs) * branches_in bs)) _ Accepted refl refl) (begins_with bs)
 
   move_begins : (f : Form) (room : ℕ) → Begins bs (move_check bs f room)
   unfolding move_check
   move_begins f room =
       begins_then (check_of bs) _
-      (if_nowhere (would_lose f (ratings_differ (book_of bs))) 18 _ (if_nowhere (ltb room (bytes_for f (buses_in bs) (branches_in bs))) 8 Accepted refl))
+      (if_nowhere (would_lose f (ratings_differ (book_of bs))) _ _ refl (if_nowhere (ltb room (bytes_for f (buses_in bs) (branches_in bs))) _ Accepted refl refl))
       (begins_with bs)
 
   -- The percentage is tested first, so it has to be in range.
@@ -69,34 +66,34 @@ module _ (bs : List ℕ) where
     unfolding lent_check
     lent_begins flows bytes =
         rw in_range
-        (begins_then (check_of bs) _ (if_nowhere (ltb flows (branches_in bs) || ltb bytes (52 * branches_in bs)) 8 Accepted refl) (begins_with bs))
+        (begins_then (check_of bs) _ (if_nowhere (ltb flows (branches_in bs) || ltb bytes (52 * branches_in bs)) _ Accepted refl refl) (begins_with bs))
 
-    branch_begins : (flows bytes b v n : ℕ) → Begins bs (branch_check percent bs flows bytes b v n)
+    branch_begins : (flows bytes b v : ℕ) (n : Refusal) → place_of (refused n) ≡ Nowhere → Begins bs (branch_check percent bs flows bytes b v n)
     unfolding branch_check
-    branch_begins flows bytes b v n =
+    branch_begins flows bytes b v n w =
         begins_then (lent_check percent bs flows bytes) _
-        (if_nowhere (leb (branches_in bs) b) 9 _ (if_nowhere (eqb (branch (book_of bs) b).status v) n Accepted refl))
+        (if_nowhere (leb (branches_in bs) b) _ _ refl (if_nowhere (eqb (branch (book_of bs) b).status v) n Accepted w refl))
         (lent_begins flows bytes)
 
     transfer_begins : (flows bytes up down kw : ℕ) → Begins bs (transfer_check percent bs flows bytes up down kw)
     unfolding transfer_check
     transfer_begins flows bytes up down kw =
         begins_then (lent_check percent bs flows bytes) _
-        (if_nowhere (leb (buses_in bs) up || (leb (buses_in bs) down || eqb up down)) 19 _
-        (if_nowhere (leaves_range bs up down kw) 20 Accepted refl))
+        (if_nowhere (leb (buses_in bs) up || (leb (buses_in bs) down || eqb up down)) _ _ refl
+        (if_nowhere (leaves_range bs up down kw) _ Accepted refl refl))
         (lent_begins flows bytes)
 
 -- ---- What the calls that are lent a book answer.
-by_check : {bs : List ℕ} {check : Outcome} {r : Answer} → Begins bs check → SaidBy check r → Tells bs r
+by_check : {bs : List ℕ} {check : Answer} {r : Answer} → Begins bs check → SaidBy check r → Tells bs r
 by_check {bs} {check} {r} b s = record {
-  whole = λ n. subst (λ (o : Outcome). SaidBy o r) (b.whole n) s;
+  whole = λ n. subst (λ (o : Answer). SaidBy o r) (b.whole n) s;
   right = λ {i} {j} h.
       let e = b.its_place (sym s.place_is ∙ h) in
       subst (λ (n : ℕ). WrongIn bs n i j) (sym (s.number_is ∙ ap number_of e)) (check_wrong bs (ap place_of (sym e) ∙ sym s.place_is ∙ h));
 }
 
 -- Past its checks an answer has no place, and the book was accepted.
-past_check : {bs : List ℕ} {check : Outcome} {r : Answer} → Begins bs check → check ≡ Accepted → place_of r.outcome ≡ Nowhere → Tells bs r
+past_check : {bs : List ℕ} {check : Answer} {r : Answer} → Begins bs check → check ≡ Accepted → place_of r ≡ Nowhere → Tells bs r
 past_check b a e = record { whole = λ n. absurd (n (sym (b.whole n) ∙ a)); right = λ h. absurd (at_not_nowhere e h) }
 
 pub read_tells : {bs : List ℕ} {inj inj' : List ℤ} {bra bra' : List ℕ} {r : Answer} → BookRead bs inj inj' bra bra' r → Tells bs r
@@ -112,7 +109,7 @@ screen_tells i (refuses n a k) = by_check (lent_begins _ _ i _ _) a
 screen_tells i (overloads c o k) = past_check (lent_begins _ _ i _ _) c o.answer.place_is
 screen_tells i (accepts c a s) = past_check (lent_begins _ _ i _ _) c a.place_is
 
-ends_tells : {check : Outcome} {C D : Case} {done : Type 0} {before after : Lent} {r : Answer} → Begins before.book check
+ends_tells : {check : Answer} {C D : Case} {done : Type 0} {before after : Lent} {r : Answer} → Begins before.book check
     → Ends check C D done before after r → Tells before.book r
 ends_tells b (call.refuses n a k) = by_check b a
 ends_tells b (call.unfit c n a k) = past_check b c a.place_is
@@ -121,10 +118,10 @@ ends_tells b (call.accepts c f a o) = past_check b c a.place_is
 
 module _ {percent b : ℕ} {before after : Lent} {r : Answer} where
   pub take_tells : percent_out percent ≡ false → TakeEnds percent b before after r → Tells before.book r
-  take_tells i e = ends_tells (branch_begins _ _ i _ _ _ _ _) e
+  take_tells i e = ends_tells (branch_begins _ _ i _ _ _ _ _ refl) e
 
   pub back_tells : percent_out percent ≡ false → BackEnds percent b before after r → Tells before.book r
-  back_tells i e = ends_tells (branch_begins _ _ i _ _ _ _ _) e
+  back_tells i e = ends_tells (branch_begins _ _ i _ _ _ _ _ refl) e
 
 pub transfer_tells : {percent up down kw : ℕ} {before after : Lent} {r : Answer} → percent_out percent ≡ false
     → TransferEnds percent up down kw before after r → Tells before.book r
@@ -132,7 +129,7 @@ transfer_tells i e = ends_tells (transfer_begins _ _ i _ _ _ _ _) e
 
 -- ---- What the writer answers to tables that are wrong.
 pub write_tells : {f : Form} {n m factor : ℕ} {inj : List ℤ} {bra out out' : List ℕ} {r : Answer} → BookWritten f n m factor inj bra out out' r
-    → {i j : ℕ} → place_of r.outcome ≡ At i j → WrongTables f n m inj bra (number_of r.outcome) i j
+    → {i j : ℕ} → place_of r ≡ At i j → WrongTables f n m inj bra (number_of r) i j
 write_tells {f} {n} {m} {factor} {inj} {bra} {out} d {i} {j} h =
     subst (λ (x : ℕ). WrongTables f n m inj bra x i j) (sym d.answer.number_is)
     (write_wrong f n m factor inj bra (length out) (sym d.answer.place_is ∙ h))

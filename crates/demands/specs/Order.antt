@@ -2,8 +2,7 @@
 use Rattle.std.specs.Prelude.{◌≡◌, Bool, true, false, not, ◌&&◌, ◌||◌, List, [], ◌∷◌, ◌↔◌, ℕ, ◌<◌, eqb}
 use Rattle.rows.specs.Row.{nth}
 use Rattle.rows.specs.Sum.{Group, differ}
-use Rattle.answer.specs.Answer.{accepted}
-use Rattle.answer.specs.declared.Answer.{Answer}
+use Rattle.answer.specs.Answer.{Answer, Accepted}
 use Rattle.layout.specs.Layout.{branches_in}
 use Rattle.verdict.specs.Record.{record_at}
 use Rattle.verdict.specs.Update.{Lent}
@@ -39,7 +38,7 @@ last before (t ∷ ts) = last t.left ts
 -- 'Accepted in full': every call is.
 abbrev pub InFull : List Step → Type 0
 InFull [] = Unit
-InFull (t ∷ ts) = (t.answer ≡ accepted) × InFull ts
+InFull (t ∷ ts) = (t.answer ≡ Accepted) × InFull ts
 
 -- Branch k is asked to be v.
 abbrev pub asks : List Switching → Bool → Group
@@ -73,5 +72,5 @@ pub record ShowSame (percent : ℕ) (one two : Lent) : Type 0 where
 -- 'Either both orders are accepted in full or neither is; where they are' they show the same: the answers r and s of the two calls in one order, r' and
 -- s' in the other, and what each order leaves.
 pub record EitherOrder (percent : ℕ) (r s r' s' : Answer) (one two : Lent) : Type 0 where
-  pub both_or_neither : ((r ≡ accepted) × (s ≡ accepted)) ↔ ((r' ≡ accepted) × (s' ≡ accepted))
-  pub same : (r ≡ accepted) × (s ≡ accepted) → ShowSame percent one two
+  pub both_or_neither : ((r ≡ Accepted) × (s ≡ Accepted)) ↔ ((r' ≡ Accepted) × (s' ≡ Accepted))
+  pub same : (r ≡ Accepted) × (s ≡ Accepted) → ShowSame percent one two

@@ -1,8 +1,7 @@
 -- When two results are the same but for what the promises leave open: docs/EXCEPTIONS.md.
 use Rattle.std.specs.Prelude.{◌≡◌, true, List, ℕ, ◌<◌, ℤ, pos}
 use Rattle.rows.specs.Row.{nth}
-use Rattle.answer.specs.Answer.{accepted}
-use Rattle.answer.specs.declared.Answer.{Answer}
+use Rattle.answer.specs.Answer.{Answer, Accepted}
 use Rattle.verdict.specs.Case.{Case, out, on, Fits}
 use Rattle.verdict.specs.Record.{record_at, verdict_in, names}
 use Rattle.verdict.specs.Update.{Lent, Beyond}
@@ -50,4 +49,4 @@ pub record SameResult (C : Case) (free written agreed : ℕ → Type 0) (one two
   pub flows : (j : ℕ) → (free j → ⊥) → on one.flow j ≡ on two.flow j
   pub beyond : Beyond C two one
   pub records : (k : ℕ) → k < C.branches → agreed k → Alike (FreeBit C written one two k) (record_at one.table k) (record_at two.table k)
-  pub refused_same : (r ≡ accepted → ⊥) → one ≡ two
+  pub refused_same : (r ≡ Accepted → ⊥) → one ≡ two

@@ -8,8 +8,7 @@ use native.Mathlib.Omega.{arith}
 use lib.IntN.{ℤ}
 use Rattle.rows.specs.Row.{every}
 use Rattle.rows.specs.Sum.{over}
-use Rattle.answer.specs.Answer.{accepted}
-use Rattle.answer.specs.declared.Answer.{Answer}
+use Rattle.answer.specs.Answer.{Answer, Accepted}
 use Rattle.grid.proofs.Tests.{◌&◌}
 use Rattle.layout.specs.declared.Form.{Form}
 use Rattle.layout.specs.Book.{Book, WellFormed}
@@ -36,7 +35,7 @@ pub at_another_call : (f : Form) (flow : List ℤ) (table : List ℕ) (one other
     → Run 100 (lent (encode (trio f 1)) flow table)
     → TakeEnds 100 0 (lent (encode (trio f 1)) flow table) one r
     → TakeEnds 100 2 (lent (encode (trio f 1)) flow table) other r' → TakeEnds 100 0 other too s'
-    → Refuses 10 (0 ∷ []) (lent (encode (trio f 1)) flow table) one r × ((r' ≡ accepted) × Refuses 20 (0 ∷ []) other too s')
+    → Refuses 10 (0 ∷ []) (lent (encode (trio f 1)) flow table) one r × ((r' ≡ Accepted) × Refuses 20 (0 ∷ []) other too s')
 at_another_call f flow table one other too r r' s' run e g h = (
   order_examples f _ (row_in (order_rows f) 0 (omega arith)) flow table one r run e,
   then_refused 100 (trio f 1) (trio f 0) 2 0 20 _ (0 ∷ []) refl
@@ -60,7 +59,7 @@ pub only_after_return : (f : Form) (flow : List ℤ) (table : List ℕ) (one oth
     → Run 100 (lent (encode (open_ring f)) flow table)
     → TakeEnds 100 1 (lent (encode (open_ring f)) flow table) one r
     → BackEnds 100 0 (lent (encode (open_ring f)) flow table) other r' → TakeEnds 100 1 other too s'
-    → Refuses 30 (0 ∷ []) (lent (encode (open_ring f)) flow table) one r × ((r' ≡ accepted) × (s' ≡ accepted))
+    → Refuses 30 (0 ∷ []) (lent (encode (open_ring f)) flow table) one r × ((r' ≡ Accepted) × (s' ≡ Accepted))
 only_after_return f flow table one other too r r' s' run e g h =
     let back = return_accepted run g (omega (arith, count_encode (open_ring f) (well_open f))) (out_now f) in
     let closed : other.book ≡ encode (triangle f 1000 30 1 1) =

@@ -11,8 +11,7 @@ use lib.ListN.{length}
 use Rattle.rows.specs.Row.{every}
 use Rattle.rows.specs.Bit.{bit_at, has}
 use Rattle.rows.specs.Sum.{over, sum}
-use Rattle.answer.specs.Answer.{no_group, accepted}
-use Rattle.answer.specs.declared.Answer.{Answer}
+use Rattle.answer.specs.Answer.{Answer, Accepted, no_group}
 use Rattle.quantity.specs.Signed.{pos_part}
 use Rattle.quantity.proofs.Limits.{full_in_range}
 use Rattle.bits.specs.Field.{with_bit, set_bit}
@@ -127,7 +126,7 @@ unfolding case_of
 served_B = refl
 
 pub leaves_reroute : {after : Lent} {r : Answer} → TakeEnds 100 0 (lent (encode B) by_first shown) after r
-    → (r ≡ accepted) × (Confined (case_of 100 B) (on by_first) (record_at shown 0) 0 (on after.flow) → ⊥)
+    → (r ≡ Accepted) × (Confined (case_of 100 B) (on by_first) (record_at shown 0) 0 (on after.flow) → ⊥)
 leaves_reroute {after} e =
     let w = well_sound B well_B in
     let x = takes_accepted 100 B w full_in_range 0 (omega arith) served_B (omega arith) room_B first_fits spare_B e in

@@ -8,9 +8,8 @@ use lib.IntN.{ℤ, pos}
 use lib.ListN.{length, take}
 use lib.Seq.{get_or-take}
 use Rattle.rows.specs.Row.{nth, every}
-use Rattle.answer.specs.Answer.{number_of, shortage_of}
+use Rattle.answer.specs.Answer.{Answer, number_of, shortage_of}
 use Rattle.rows.specs.Sum.{over, sum}
-use Rattle.answer.specs.declared.Answer.{Answer}
 use Rattle.grid.proofs.Tests.{◌&◌}
 use Rattle.quantity.specs.Signed.{pos_part}
 use Rattle.quantity.proofs.Limits.{full_in_range}
@@ -49,7 +48,7 @@ first_byte rec bytes e = sym (get_or-take 20 rec 0 0 (omega arith)) ∙ ap (λ (
 -- ---- Screens.
 module _ {flow : List ℤ} {table : List ℕ} {after : Lent} {r : Answer} where
   -- One that refuses every book with 12.
-  pub all_refused : 3 ≤ length flow → 156 ≤ length table → ScreenEnds 100 (lent (encode T) flow table) after r → number_of r.outcome ≡ 12 → ⊥
+  pub all_refused : 3 ≤ length flow → 156 ≤ length table → ScreenEnds 100 (lent (encode T) flow table) after r → number_of r ≡ 12 → ⊥
   all_refused l m e n =
       let s : Shows 100 T (carries ∷ carries ∷ carries ∷ []) (lent (encode T) flow table) after r =
       marked_examples Old _ (row_in (marked_rows Old) 0 (omega arith)) flow table after r l m e in
@@ -102,7 +101,7 @@ module _ {flow : List ℤ} {table : List ℕ} {after : Lent} {r : Answer} where
       omega (arith, first_byte (record_at after.table 0) _ (s.records 0 (omega arith)))
 
   -- One whose base flow keeps to the second limits.
-  pub fitted_by_second : 1 ≤ length flow → 52 ≤ length table → ScreenEnds 100 (lent (encode feeder) flow table) after r → number_of r.outcome ≡ 0
+  pub fitted_by_second : 1 ≤ length flow → 52 ≤ length table → ScreenEnds 100 (lent (encode feeder) flow table) after r → number_of r ≡ 0
       → ⊥
   fitted_by_second l m e n =
       let k : Refuses 10 (0 ∷ []) (lent (encode feeder) flow table) after r =
@@ -110,7 +109,7 @@ module _ {flow : List ℤ} {table : List ℕ} {after : Lent} {r : Answer} where
       omega (arith, k.answer.number_is)
 
   -- A call that takes a branch out for good by the second limits.
-  pub taken_by_second : Run 100 (lent (encode pair) flow table) → TakeEnds 100 0 (lent (encode pair) flow table) after r → number_of r.outcome ≡ 0
+  pub taken_by_second : Run 100 (lent (encode pair) flow table) → TakeEnds 100 0 (lent (encode pair) flow table) after r → number_of r ≡ 0
       → ⊥
   taken_by_second run e n =
       let k : Refuses 10 (0 ∷ []) (lent (encode pair) flow table) after r =
@@ -119,7 +118,7 @@ module _ {flow : List ℤ} {table : List ℕ} {after : Lent} {r : Answer} where
 
   -- One that refuses with the shortage that the record shows.
   pub twelve_as_shown : Run 100 (lent (encode way) flow table) → TakeEnds 100 0 (lent (encode way) flow table) after r
-      → shortage_of r.outcome ≡ 10 → ⊥
+      → shortage_of r ≡ 10 → ⊥
   twelve_as_shown run e n =
       let k : Refuses 20 (0 ∷ []) (lent (encode way) flow table) after r =
       marked_examples Old _ (row_in (marked_rows Old) 17 (omega arith)) flow table after r run e in
@@ -170,7 +169,7 @@ still_unfit f = let e : pos 0 ≡ pos 30 = f.bus 0 (omega arith) in omega (arith
 
 module _ {table : List ℕ} {after : Lent} {r : Answer} where
   -- One that tests 12 before 11.
-  pub twelve_first : 156 ≤ length table → TakeEnds 100 1 (lent (encode Open) still table) after r → number_of r.outcome ≡ 12 → ⊥
+  pub twelve_first : 156 ≤ length table → TakeEnds 100 1 (lent (encode Open) still table) after r → number_of r ≡ 12 → ⊥
   twelve_first l e n =
       let w = well_sound Open well_Open in
       let checked = takes_checked 100 Open w full_in_range 1 (omega arith) served_Open 3 (length table) (omega arith) l in

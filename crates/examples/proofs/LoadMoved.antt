@@ -9,8 +9,7 @@ use lib.ListN.{length}
 use Rattle.rows.specs.Row.{every}
 use Rattle.rows.specs.Bit.{has}
 use Rattle.rows.specs.Sum.{over, sum}
-use Rattle.answer.specs.Answer.{accepted}
-use Rattle.answer.specs.declared.Answer.{Answer}
+use Rattle.answer.specs.Answer.{Answer, Accepted}
 use Rattle.quantity.specs.Signed.{pos_part}
 use Rattle.quantity.proofs.Limits.{full_in_range}
 use Rattle.grid.proofs.Tests.{◌&◌, ◌⇒◌, every_group}
@@ -102,7 +101,7 @@ module _ (B : Book) (w : WellFormed B) (up down kw : ℕ) (up_there : up < buses
 
   moves_accepted : {flow : List ℤ} {table : List ℕ} {after : Lent} {r : Answer} → count B ≤ length flow → 52 * count B ≤ length table
       → Fits (case_of 100 B) (case_of 100 B).limit (on flow) → no_excess_test (shifted (case_of 100 B) up down kw) ≡ true
-      → TransferEnds 100 up down kw (lent (encode B) flow table) after r → r ≡ accepted
+      → TransferEnds 100 up down kw (lent (encode B) flow table) after r → r ≡ Accepted
   moves_accepted l m f t (refuses n a k) = absurd (n (moving _ _ _ up down kw (may _ _ l m)))
   moves_accepted {flow} l m f t (unfit c n a k) = absurd (n (of_bytes 100 B w (λ C. Fits C C.limit (on flow)) f))
   moves_accepted {flow} {table} {r = r} l m f t (overloads c h o k) =
@@ -118,7 +117,7 @@ unfolding case_of no_excess_test most_test every_group over ◌&◌ ◌⇒◌
 no_excess = refl
 
 pub one_more : {table : List ℕ} {after : Lent} {r : Answer} → 156 ≤ length table
-    → TransferEnds 100 0 1 1 (lent (encode Abreast) by_second table) after r → (r ≡ accepted) × (after.flow ≡ afresh → ⊥)
+    → TransferEnds 100 0 1 1 (lent (encode Abreast) by_second table) after r → (r ≡ Accepted) × (after.flow ≡ afresh → ⊥)
 one_more l e = (
   moves_accepted Abreast well 0 1 1 (omega arith) (omega arith) (λ q. omega arith) (omega arith) (omega arith) (omega arith) l
       second_fits no_excess e,

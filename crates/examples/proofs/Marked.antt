@@ -11,11 +11,9 @@ use lib.ListN.{length, get_or, take}
 use Rattle.rows.specs.Row.{every, some, up_to, headed}
 use Rattle.rows.specs.Bit.{has, bit_at}
 use Rattle.rows.specs.Sum.{over, sum}
-use Rattle.answer.specs.Answer.{number_of, no_group, Said, accepted, overloaded, settled}
+use Rattle.std.specs.Prelude.{Option}
 use Rattle.answer.specs.declared.Place.{Place}
-use Rattle.answer.specs.declared.Place.TheVariants.{Nowhere}
-use Rattle.answer.specs.declared.Outcome.TheVariants.{Accepted}
-use Rattle.answer.specs.declared.Answer.{Answer}
+use Rattle.answer.specs.Answer.{Answer, Accepted, Nowhere, Said, no_group, number_of, overloaded, settled}
 use Rattle.rows.proofs.Row.{every_at}
 use Rattle.answer.proofs.Said.{said_overloaded}
 use Rattle.quantity.specs.Rating.{percent_out}
@@ -225,7 +223,7 @@ row_sound p i (keeps b k v group) t =
     (and_right _ _ t₂)
 row_sound p i (meters R space number output) t = λ left r m. record {
   answer = subst (λ (n : ℕ). Said r n 0 no_group Nowhere) (eqb-true _ _ (and_left _ _ t))
-      (subst (λ (p : Place). Said r (number_of (answer_to R (length space))) 0 no_group p) (meter_nowhere R (length space)) m.answer);
+      (subst (λ (p : Option Place). Said r (number_of (answer_to R (length space))) 0 no_group p) (meter_nowhere R (length space)) m.answer);
   output_is = m.output ∙ same_sound _ _ (and_right _ _ t);
 }
 
@@ -267,7 +265,7 @@ summer_examples = rows_sound 80 refl summer_rows refl
 pub then_refused : (percent : ℕ) (B D : Book) (b c v : ℕ) (sights : List Sight) (group : List ℕ) → in_form B.form D ≡ D
     → Holds percent (takes B b D sights) → Holds percent (keeps D c v group)
     → (flow : List ℤ) (table : List ℕ) (mid after : Lent) (r s : Answer) → Run percent (lent (encode B) flow table)
-    → TakeEnds percent b (lent (encode B) flow table) mid r → TakeEnds percent c mid after s → (r ≡ accepted) × Refuses v group mid after s
+    → TakeEnds percent b (lent (encode B) flow table) mid r → TakeEnds percent c mid after s → (r ≡ Accepted) × Refuses v group mid after s
 then_refused percent B D b c v sights group same one two flow table mid after r s run e g =
     let t = one flow table mid r run e in
     let a = is_accepted t.answer in

@@ -11,8 +11,7 @@ use lib.ListN.{length}
 use Rattle.rows.specs.Row.{nth, every, some}
 use Rattle.rows.specs.Bit.{bit_at, has}
 use Rattle.rows.specs.Sum.{over, sum}
-use Rattle.answer.specs.Answer.{no_group, accepted}
-use Rattle.answer.specs.declared.Answer.{Answer}
+use Rattle.answer.specs.Answer.{Answer, Accepted, no_group}
 use Rattle.quantity.specs.Signed.{pos_part}
 use Rattle.quantity.specs.Rating.{percent_out}
 use Rattle.bits.specs.Field.{Bytes, with_bit, set_bit}
@@ -218,7 +217,7 @@ still_stale {after} o t =
     short_after (ap verdict_in k ∙ carrying) (t.each 0 (there 0 (omega arith)))
 
 pub accepted_stale : {after : Lent} {r : Answer} → TakeEnds 50 2 (lent (encode B) halves shown) after r
-    → (r ≡ accepted) × (TrueTable (out (case_of 50 B) 2) after.flow after.table → ⊥)
+    → (r ≡ Accepted) × (TrueTable (out (case_of 50 B) 2) after.flow after.table → ⊥)
 accepted_stale e =
     let x = takes_accepted 50 B well_B half_in_range 2 (omega arith) (in_service 50 2 (omega arith)) (omega arith) room_B fits_at_50 spared e in
     (x.0, still_stale x.1)

@@ -8,9 +8,7 @@ use native.Mathlib.Omega.{arith}
 use lib.IntN.{ℤ}
 use lib.ListN.{length}
 use Rattle.rows.specs.Bit.{has}
-use Rattle.answer.specs.Answer.{accepted}
-use Rattle.answer.specs.declared.Outcome.TheVariants.{Accepted}
-use Rattle.answer.specs.declared.Answer.{Answer}
+use Rattle.answer.specs.Answer.{Answer, Accepted}
 use Rattle.quantity.specs.Rating.{percent_out}
 use Rattle.quantity.proofs.Limits.{full_at_most}
 use Rattle.layout.specs.Book.{Book, count, WellFormed}
@@ -52,7 +50,7 @@ module _ (percent : ℕ) (B : Book) (w : WellFormed B) where
 
     pub takes_accepted : {flow : List ℤ} {table : List ℕ} {after : Lent} {r : Answer} → count B ≤ length flow → 52 * count B ≤ length table
         → Fits (case_of percent B) (case_of percent B).limit (on flow) → no_excess_test (out (case_of percent B) b) ≡ true
-        → TakeEnds percent b (lent (encode B) flow table) after r → (r ≡ accepted) × TakenOut percent b (lent (encode B) flow table) after
+        → TakeEnds percent b (lent (encode B) flow table) after r → (r ≡ Accepted) × TakenOut percent b (lent (encode B) flow table) after
     takes_accepted l m f t (refuses n a k) = absurd (n (takes_checked _ _ l m))
     takes_accepted {flow} l m f t (unfit c n a k) = absurd (n (of_bytes (λ C. Fits C C.limit (on flow)) f))
     takes_accepted {r = r} l m f t (overloads c h o k) =

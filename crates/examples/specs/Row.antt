@@ -1,9 +1,6 @@
 -- A row of the table of marked examples: a book or registers, and what must then be shown.
 use Rattle.std.specs.Prelude.{◌≡◌, List, [], ◌∷◌, ℕ, ◌*◌, ◌≤◌, ◌<◌, ℤ, length, get_or, take}
-use Rattle.answer.specs.Answer.{Said, SaidBy, no_group}
-use Rattle.answer.specs.declared.Place.TheVariants.{Nowhere}
-use Rattle.answer.specs.declared.Outcome.TheVariants.{Accepted}
-use Rattle.answer.specs.declared.Answer.{Answer}
+use Rattle.answer.specs.Answer.{Answer, Accepted, Nowhere, Said, SaidBy, no_group}
 use Rattle.bits.specs.Field.{set_bit}
 use Rattle.layout.specs.Book.{Book, count, in_form}
 use Rattle.layout.specs.Layout.{encode}

@@ -1,6 +1,6 @@
 -- The two tests together say whether a lent flow fits.
-use mathlib.Core.Path.{◌≡◌, sym, ◌∙◌}
-use mathlib.Core.Bool.{Bool, true, false, true≢false, false≢true}
+use mathlib.Core.Path.{◌≡◌, sym, ◌∙◌, subst}
+use mathlib.Core.Bool.{true, false, true≢false}
 use mathlib.Core.List.{List}
 use Prim.Native.Nat.{ℕ, ◌<◌, ◌≤◌}
 use native.Mathlib.Omega.{arith}
@@ -17,29 +17,23 @@ use Rattle.search.specs.declared.Latent.{Latent}
 use Rattle.verdict.specs.Case.{on}
 use Rattle.verdict.proofs.Plain.{flow_of}
 use Rattle.verdict.proofs.Alike.{SameFlow, balanced_alike}
-use Rattle.fit.specs.Inside.{Left, Measured, Talliable, Tallied, Lendable, Fitted}
-use Rattle.fit.specs.declared.Lending.{Lending}
+use Rattle.fit.specs.Inside.{Left, Talliable, Tallied, Lendable, Fitted}
+use Rattle.fit.proofs.Measuring.{the_same}
+use Rattle.std.specs.Prelude.{None, Some}
 
 module _ (W : Wires) (flow : List ℤ) (live gain load : List ℕ) where
-  pub fit_out : (r : Lending) → Measured W.branches flow live r → r.fits ≡ false → Fitted W flow live gain load r
-  fit_out r t e = record {
-    left = λ q. absurd (true≢false (sym q ∙ e));
-    balances = λ q. absurd (true≢false (sym q ∙ e));
-    unfit = λ _ h B. t.not_within e h;
-  }
-
   -- What the two sums ask for.
   ends_in : Lendable W live gain load (length flow) → ((k : ℕ) → k < W.branches → nth W.first k < 128) × ((k : ℕ) → k < W.branches → nth W.second k < 128)
   ends_in p = (λ k u. omega (arith, p.wired.first_in k u, p.wired.few), λ k u. omega (arith, p.wired.second_in k u, p.wired.few))
 
-  module _ (r : Lending) (p : Lendable W live gain load (length flow)) (t : Measured W.branches flow live r) (e : r.fits ≡ true) where
-    small_rows : (k : ℕ) → k < W.branches → (nth live k ≤ 1000000) × (nth r.latent.ahead k ≤ 2000000)
-    small_rows k u = let l = t.yes_within e in (p.limits k u, omega (arith, l.ahead_is k u, (l.keeps k u).back, p.limits k u))
+  module _ (x : Latent) (p : Lendable W live gain load (length flow)) (l : Left W.branches flow live x) where
+    small_rows : (k : ℕ) → k < W.branches → (nth live k ≤ 1000000) × (nth x.ahead k ≤ 2000000)
+    small_rows k u = (p.limits k u, omega (arith, l.ahead_is k u, (l.keeps k u).back, p.limits k u))
 
-    pub coming : Talliable W.branches W.second live W.first r.latent.ahead gain
+    pub coming : Talliable W.branches W.second live W.first x.ahead gain
     coming = record { few = p.wired.size; one_in = (ends_in p).1; other_in = (ends_in p).0; small = small_rows; small_start = λ i. (p.small i).0 }
 
-    pub going : Talliable W.branches W.first live W.second r.latent.ahead load
+    pub going : Talliable W.branches W.first live W.second x.ahead load
     going = record { few = p.wired.size; one_in = (ends_in p).0; other_in = (ends_in p).1; small = small_rows; small_start = λ i. (p.small i).1 }
 
   module _ (p : Lendable W live gain load (length flow)) (x : Latent) (l : Left W.branches flow live x) (comes goes : List ℕ)
@@ -59,12 +53,18 @@ module _ (W : Wires) (flow : List ℤ) (live gain load : List ℕ) where
     from_balance : Balanced (network W (nth live) (nth gain) (nth load)) (carried (nth live) x.ahead) (λ i. 0) (λ i. 0) → (i : ℕ) → i < W.buses → nth comes i ≡ nth goes i
     from_balance B i u = omega (arith, B.bus i u, cs.sums i (at_bus i u), gs.sums i (at_bus i u))
 
-    pub fit_in : (t : Bool) → t ≡ every W.buses (λ i. eqb (nth comes i) (nth goes i)) → Fitted W flow live gain load (record { fits = t; latent = x })
-    fit_in t e = record {
-      left = λ _. l;
-      balances = λ q. balanced_alike (network W (nth live) (nth gain) (nth load)) (carried (nth live) x.ahead) (flow_of (on flow)) (λ i. 0) (λ i. 0) same
-          (to_balance (λ i u. eqb-true _ _ (every_at (λ i. eqb (nth comes i) (nth goes i)) W.buses (sym e ∙ q) i u)));
-      unfit = λ q h B. false≢true (sym q ∙ e
-          ∙ every_from (λ i. eqb (nth comes i) (nth goes i)) W.buses
-          (λ i u. eq-eqb _ _ (from_balance (balanced_alike (network W (nth live) (nth gain) (nth load)) (flow_of (on flow)) (carried (nth live) x.ahead) (λ i. 0) (λ i. 0) back B) i u)));
+    pub fit_in : every W.buses (λ i. eqb (nth comes i) (nth goes i)) ≡ true → Fitted W flow live gain load (Some x)
+    fit_in e = record {
+      left = λ lat q. subst (Left W.branches flow live) (the_same q) l;
+      balances = λ lat q. balanced_alike (network W (nth live) (nth gain) (nth load)) (carried (nth live) x.ahead) (flow_of (on flow)) (λ i. 0) (λ i. 0) same
+          (to_balance (λ i u. eqb-true _ _ (every_at (λ i. eqb (nth comes i) (nth goes i)) W.buses e i u)));
+      unfit = λ q. cc;
+    }
+
+    pub fit_not : every W.buses (λ i. eqb (nth comes i) (nth goes i)) ≡ false → Fitted W flow live gain load None
+    fit_not e = record {
+      left = λ lat q. cc;
+      balances = λ lat q. cc;
+      unfit = λ q h B. true≢false (sym (every_from (λ i. eqb (nth comes i) (nth goes i)) W.buses
+          (λ i u. eq-eqb _ _ (from_balance (balanced_alike (network W (nth live) (nth gain) (nth load)) (flow_of (on flow)) (carried (nth live) x.ahead) (λ i. 0) (λ i. 0) back B) i u))) ∙ e);
     }

@@ -1,6 +1,5 @@
 -- The latent capacities that a lent flow leaves, branch by branch, or the first branch where it passes the limit.
-use mathlib.Core.Path.{◌≡◌, refl}
-use mathlib.Core.Bool.{true, false, true≢false, false≢true}
+use mathlib.Core.Path.{◌≡◌, refl, subst}
 use mathlib.Core.List.{List}
 use Prim.Native.Nat.{ℕ, ◌+◌, ◌-◌, ◌<◌, ◌≤◌}
 use native.Mathlib.Omega.{arith}
@@ -8,10 +7,15 @@ use borrow.Author.Count.{below_more}
 use lib.IntN.{ℤ}
 use lib.ListN.{length, set, replicate, length-set}
 use lib.Seq.{get_or-set_same, get_or-set_other}
+use Rattle.std.specs.Prelude.{None, Some}
 use Rattle.rows.specs.Row.{nth}
+use Rattle.search.specs.declared.Latent.{Latent}
 use Rattle.quantity.specs.Signed.{pos_part, neg_part}
 use Rattle.verdict.specs.Case.{on}
 use Rattle.fit.specs.Inside.{Measurable, Keeps, Left, Measured}
+
+pub the_same : {x y : Latent} → Some x ≡ Some y → x ≡ y
+the_same e = cc
 
 -- ---- Latent capacities.
 pub record Testing (n : ℕ) (flow : List ℤ) (live a b : List ℕ) (k : ℕ) : Type 0 where
@@ -52,14 +56,14 @@ module _ (n : ℕ) (flow : List ℤ) (live : List ℕ) where
         };
       }
 
-  pub tested_all : {a b : List ℕ} {k : ℕ} → Testing n flow live a b k → k ≡ n → Measured n flow live (record { fits = true; latent = record { ahead = a; back = b } })
+  pub tested_all : {a b : List ℕ} {k : ℕ} → Testing n flow live a b k → k ≡ n → Measured n flow live (Some (record { ahead = a; back = b }))
   tested_all {a} {b} {k} t e = record {
-    yes_within = λ _. rw e at t.so_far;
-    not_within = λ q. absurd (true≢false q);
+    within = λ lat q. subst (Left n flow live) (the_same q) (rw e at t.so_far);
+    not_within = λ q. cc;
   }
 
-  pub tested_out : {a b : List ℕ} {k : ℕ} → Testing n flow live a b k → k < n → (Keeps flow live k → ⊥) → Measured n flow live (record { fits = false; latent = record { ahead = a; back = b } })
+  pub tested_out : {a b : List ℕ} {k : ℕ} → Testing n flow live a b k → k < n → (Keeps flow live k → ⊥) → Measured n flow live None
   tested_out {a} {b} {k} t u bad = record {
-    yes_within = λ q. absurd (false≢true q);
+    within = λ lat q. cc;
     not_within = λ _ h. bad (h k u);
   }

@@ -1,5 +1,5 @@
 -- What the functions that test a lent flow ask for and say.
-use Rattle.std.specs.Prelude.{◌≡◌, true, false, List, ℕ, ◌+◌, ◌<◌, ◌≤◌, eqb, ℤ}
+use Rattle.std.specs.Prelude.{◌≡◌, List, ℕ, ◌+◌, ◌<◌, ◌≤◌, eqb, ℤ, Option, None, Some}
 use Rattle.rows.specs.Row.{nth}
 use Rattle.rows.specs.Sum.{over}
 use Rattle.search.specs.InsideLinks.{Linkable}
@@ -10,7 +10,6 @@ use Rattle.grid.proofs.Flow.{Balanced}
 use Rattle.reroute.specs.InsideMoves.{network}
 use Rattle.verdict.specs.Case.{on}
 use Rattle.verdict.proofs.Plain.{flow_of}
-use Rattle.fit.specs.declared.Lending.{Lending}
 
 -- ---- `latents`: limits of n branches, and a flow lent for them.
 pub record Measurable (n : ℕ) (live : List ℕ) (room : ℕ) : Type 0 where
@@ -29,9 +28,9 @@ pub record Left (n : ℕ) (flow : List ℤ) (live : List ℕ) (lat : Latent) : T
   pub ahead_is : (k : ℕ) → k < n → nth lat.ahead k + pos_part (on flow k) ≡ nth live k + neg_part (on flow k)
   pub back_is : (k : ℕ) → k < n → nth lat.back k + neg_part (on flow k) ≡ nth live k + pos_part (on flow k)
 
-pub record Measured (n : ℕ) (flow : List ℤ) (live : List ℕ) (r : Lending) : Type 0 where
-  pub yes_within : r.fits ≡ true → Left n flow live r.latent
-  pub not_within : r.fits ≡ false → ((k : ℕ) → k < n → Keeps flow live k) → ⊥
+pub record Measured (n : ℕ) (flow : List ℤ) (live : List ℕ) (r : Option Latent) : Type 0 where
+  pub within : (lat : Latent) → r ≡ Some lat → Left n flow live lat
+  pub not_within : r ≡ None → ((k : ℕ) → k < n → Keeps flow live k) → ⊥
 
 -- ---- `tally`: at each bus the sums over the n branches with it at their one end, and at their other.
 pub record Talliable (n : ℕ) (one x other y start : List ℕ) : Type 0 where
@@ -52,7 +51,7 @@ pub record Lendable (W : Wires) (live gain load : List ℕ) (room : ℕ) : Type 
   pub small : (i : ℕ) → (nth gain i ≤ 2000000) × (nth load i ≤ 2000000)
 
 -- The latent capacities of a flow that fits; a flow that doesn't passes a limit or leaves a bus unbalanced.
-pub record Fitted (W : Wires) (flow : List ℤ) (live gain load : List ℕ) (r : Lending) : Type 0 where
-  pub left : r.fits ≡ true → Left W.branches flow live r.latent
-  pub balances : r.fits ≡ true → Balanced (network W (nth live) (nth gain) (nth load)) (flow_of (on flow)) (λ i. 0) (λ i. 0)
-  pub unfit : r.fits ≡ false → ((k : ℕ) → k < W.branches → Keeps flow live k) → Balanced (network W (nth live) (nth gain) (nth load)) (flow_of (on flow)) (λ i. 0) (λ i. 0) → ⊥
+pub record Fitted (W : Wires) (flow : List ℤ) (live gain load : List ℕ) (r : Option Latent) : Type 0 where
+  pub left : (lat : Latent) → r ≡ Some lat → Left W.branches flow live lat
+  pub balances : (lat : Latent) → r ≡ Some lat → Balanced (network W (nth live) (nth gain) (nth load)) (flow_of (on flow)) (λ i. 0) (λ i. 0)
+  pub unfit : r ≡ None → ((k : ℕ) → k < W.branches → Keeps flow live k) → Balanced (network W (nth live) (nth gain) (nth load)) (flow_of (on flow)) (λ i. 0) (λ i. 0) → ⊥

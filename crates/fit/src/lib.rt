@@ -8,14 +8,8 @@ ghost use Rattle.fit.specs.Inside.{Lendable, Measurable, Measured, Talliable, Ta
 
 use search::{Latent, Wires};
 
-// The latent capacities that a lent flow leaves, where it fits.
-#[derive(Clone, Copy)]
-pub struct Lending {
-    pub fits: bool,
-    pub latent: Latent,
-}
-
-fn latents(flow: &[i32], branches: usize, live: [u32; 256]) -> Lending
+// The latent capacities that a lent flow leaves, if it keeps to the limits.
+fn latents(flow: &[i32], branches: usize, live: [u32; 256]) -> Option<Latent>
     requires { Measurable branches live (length flow.now) }
     ensures { Measured branches flow.now live result }
 {
@@ -26,26 +20,14 @@ fn latents(flow: &[i32], branches: usize, live: [u32; 256]) -> Lending
         let up = quantity::above(flow[k]);
         let down = quantity::below(flow[k]);
         let limit = live[k];
-        if limit < up {
-            return Lending {
-                fits: false,
-                latent: Latent { ahead, back },
-            };
-        }
-        if limit < down {
-            return Lending {
-                fits: false,
-                latent: Latent { ahead, back },
-            };
+        if limit < up || limit < down {
+            return None;
         }
         ahead[k] = limit + down - up;
         back[k] = limit + up - down;
         k += 1;
     }
-    Lending {
-        fits: true,
-        latent: Latent { ahead, back },
-    }
+    Some(Latent { ahead, back })
 }
 
 // What each bus has at the start, with x of every branch at its one end and y at its other.
@@ -86,28 +68,26 @@ fn same_rows(n: usize, one: [u32; 128], two: [u32; 128]) -> bool
     true
 }
 
-// Counted as if every branch carried its limit ahead and its latent capacity back: the difference is its flow.
+// The latent capacities that a lent flow leaves, if it fits. Counted as if every branch carried its limit ahead and its latent capacity back: the
+// difference is its flow.
 pub fn test(
     flow: &[i32],
     wires: Wires,
     live: [u32; 256],
     gain: [u32; 128],
     load: [u32; 128],
-) -> Lending
+) -> Option<Latent>
     requires { Lendable wires live gain load (length flow.now) }
     ensures { Fitted wires flow.now live gain load result }
 {
-    let lent = latents(flow, wires.branches, live);
-    let within = lent.fits;
-    if !within {
-        return lent;
-    }
-    let latent = lent.latent;
+    let latent = latents(flow, wires.branches, live)?;
     let ahead = latent.ahead;
     let first = wires.first;
     let second = wires.second;
     let comes = tally(wires.branches, second, live, first, ahead, gain);
     let goes = tally(wires.branches, first, live, second, ahead, load);
-    let fits = same_rows(wires.buses, comes, goes);
-    Lending { fits, latent }
+    if !same_rows(wires.buses, comes, goes) {
+        return None;
+    }
+    Some(latent)
 }

@@ -6,8 +6,7 @@ use Prim.Native.Nat.{ℕ, ◌<◌}
 use native.Mathlib.Omega.{arith}
 use borrow.Author.Tests.{eqb-true, eq-eqb, not-false}
 use Rattle.rows.proofs.Row.{some_same, some_never, no_some}
-use Rattle.answer.specs.declared.Outcome.TheVariants.{Accepted}
-use Rattle.answer.specs.declared.Answer.{Answer}
+use Rattle.answer.specs.Answer.{Answer, Accepted}
 use Rattle.answer.proofs.Said.{said_same}
 use Rattle.quantity.specs.declared.Kva.{Kva}
 use Rattle.quantity.specs.Rating.{in_kva}

@@ -8,10 +8,8 @@ use lib.Dec.{ltb}
 use lib.ListN.{length, drop, replicate}
 use Rattle.rows.specs.Row.{member, some}
 use Rattle.rows.proofs.Row.{some_same}
-use Rattle.answer.specs.declared.Outcome.{Outcome}
-use Rattle.answer.specs.declared.Outcome.TheVariants.{Accepted}
-use Rattle.answer.specs.declared.Answer.{Answer}
-use Rattle.answer.specs.Answer.{SaidBy, bare, refusal}
+use Rattle.answer.specs.declared.Refusal.TheVariants.{TooShort, RatingsLost}
+use Rattle.answer.specs.Answer.{Answer, Accepted, SaidBy, refused}
 use Rattle.answer.proofs.Refusals.{past, past_both, stands, leaves}
 use Rattle.answer.proofs.Numbers.{Gives, gives_if, gives_then, gives_said, said_is, inside, gives_more}
 use Rattle.bits.specs.Field.{Bytes}
@@ -38,16 +36,16 @@ pub move_gives : (bs : List ℕ) (f : Form) (room : ℕ) → Gives move_numbers 
 unfolding move_check member inside
 move_gives bs f room =
     gives_then move_numbers (check_of bs) _ (gives_more check_numbers move_numbers (check_of bs) refl (check_gives bs))
-    (gives_if move_numbers (would_lose f (ratings_differ (book_of bs))) 18 _ refl
-    (gives_if move_numbers (ltb room (bytes_for f (buses_in bs) (branches_in bs))) 8 Accepted refl tt))
+    (gives_if move_numbers (would_lose f (ratings_differ (book_of bs))) RatingsLost _ refl
+    (gives_if move_numbers (ltb room (bytes_for f (buses_in bs) (branches_in bs))) TooShort Accepted refl tt))
 
-pub move_said : (bs : List ℕ) (f : Form) (room : ℕ) {r : Answer} → r ≡ bare (move_check bs f room) → SaidBy (move_check bs f room) r
+pub move_said : (bs : List ℕ) (f : Form) (room : ℕ) {r : Answer} → r ≡ (move_check bs f room) → SaidBy (move_check bs f room) r
 unfolding member
-move_said bs f room = gives_said move_numbers (move_check bs f room) refl refl (move_gives bs f room)
+move_said bs f room = gives_said move_numbers (move_check bs f room) refl (move_gives bs f room)
 
-pub move_answer : {bs : List ℕ} {f : Form} {out out' : List ℕ} {r : Answer} → BookMoved bs f out out' r → r ≡ bare (move_check bs f (length out))
+pub move_answer : {bs : List ℕ} {f : Form} {out out' : List ℕ} {r : Answer} → BookMoved bs f out out' r → r ≡ (move_check bs f (length out))
 unfolding member
-move_answer {bs} {f} {out} d = said_is move_numbers _ refl refl (move_gives bs f (length out)) d.answer
+move_answer {bs} {f} {out} d = said_is move_numbers _ refl (move_gives bs f (length out)) d.answer
 
 -- ---- the tests
 
@@ -77,24 +75,24 @@ module _ (bs : List ℕ) (f : Form) (room : ℕ) where
   unfolding move_check
   moves e =
       let p = past_both (check_of bs) _ e in
-      let q = past (would_lose f (ratings_differ (book_of bs))) 18 _ p.1 in
-      let r = past (ltb room (bytes_for f (buses_in bs) (branches_in bs))) 8 Accepted q.1 in
+      let q = past (would_lose f (ratings_differ (book_of bs))) _ _ p.1 in
+      let r = past (ltb room (bytes_for f (buses_in bs) (branches_in bs))) _ Accepted q.1 in
       record { book = p.0; holds = q.0; fits = ltb-false room _ r.0 }
 
   pub moving : Moves bs f room → move_check bs f room ≡ Accepted
   unfolding move_check
   moving m = rw (m.book, m.holds, le-ltb room (bytes_for f (buses_in bs) (branches_in bs)) m.fits) refl
 
-  pub by_book : (o : Outcome) → o ≡ check_of bs → (o ≡ Accepted → ⊥) → o ≡ move_check bs f room
+  pub by_book : (o : Answer) → o ≡ check_of bs → (o ≡ Accepted → ⊥) → o ≡ move_check bs f room
   unfolding move_check
   by_book o e n = sym (rw (← e) (stands o _ n))
 
   module _ (ok : check_of bs ≡ Accepted) (lost short : Bool) (l : lost ≡ would_lose f (ratings_differ (book_of bs))) (s : short ≡ ltb room (bytes_for f (buses_in bs) (branches_in bs))) where
-    pub by_ratings : lost ≡ true → refusal 18 ≡ move_check bs f room
+    pub by_ratings : lost ≡ true → refused RatingsLost ≡ move_check bs f room
     unfolding move_check
     by_ratings t = rw (ok, ← l, t) refl
 
-    pub by_room : lost ≡ false → short ≡ true → refusal 8 ≡ move_check bs f room
+    pub by_room : lost ≡ false → short ≡ true → refused TooShort ≡ move_check bs f room
     unfolding move_check
     by_room t u = rw (ok, ← l, t, ← s, u) refl
 
@@ -118,11 +116,11 @@ moved_bytes_lem bs f h w ok out z₀ z₁ z₂ z₃ l e₀ e₁ e₂ e₃ =
 
 -- ---- the ways in which a move ends
 
-module _ (bs : List ℕ) (f : Form) (out : List ℕ) (g : Bytes bs) (o : Outcome) (is : o ≡ move_check bs f (length out)) where
-  pub move_refused : (r : Answer) → (o ≡ Accepted → ⊥) → r ≡ bare o → BookMoved bs f out out r
-  move_refused r a q = record { bytes = g; answer = move_said bs f (length out) (q ∙ ap bare is); left = sym (rw (← is) (leaves o out _ a)) }
+module _ (bs : List ℕ) (f : Form) (out : List ℕ) (g : Bytes bs) (o : Answer) (is : o ≡ move_check bs f (length out)) where
+  pub move_refused : (r : Answer) → (o ≡ Accepted → ⊥) → r ≡ o → BookMoved bs f out out r
+  move_refused r a q = record { bytes = g; answer = move_said bs f (length out) (q ∙ is); left = sym (rw (← is) (leaves o out _ a)) }
 
   pub move_done : (end : ℕ) (new : List ℕ) (r : Answer) → o ≡ Accepted → end ≡ bytes_for f (buses_in bs) (branches_in bs)
-      → new ≡ encode (in_form f (book_of bs)) → r ≡ bare o
+      → new ≡ encode (in_form f (book_of bs)) → r ≡ o
       → BookMoved bs f out (new ++ drop end out) r
-  move_done end new r a e q s = record { bytes = g; answer = move_said bs f (length out) (s ∙ ap bare is); left = rw (← is, a, e, q) refl }
+  move_done end new r a e q s = record { bytes = g; answer = move_said bs f (length out) (s ∙ is); left = rw (← is, a, e, q) refl }

@@ -1,6 +1,6 @@
 -- What inner functions of the move ask: an accepted book with its header, and counts that are small.
 use Rattle.std.specs.Prelude.{◌≡◌, List, ℕ, ◌≤◌}
-use Rattle.answer.specs.declared.Outcome.TheVariants.{Accepted}
+use Rattle.answer.specs.Answer.{Accepted}
 use Rattle.layout.specs.declared.Form.{Form}
 use Rattle.layout.specs.declared.Head.{Head}
 use Rattle.layout.specs.Layout.{bytes_for}

@@ -1,10 +1,8 @@
 -- What moving a book to a form promises.
 use Rattle.std.specs.Prelude.{◌≡◌, Bool, false, not, List, ◌∷◌, ◌++◌, ℕ, ltb, eqb, length, drop}
 use Rattle.rows.specs.Row.{some}
-use Rattle.answer.specs.declared.Outcome.{Outcome}
-use Rattle.answer.specs.declared.Outcome.TheVariants.{Accepted}
-use Rattle.answer.specs.declared.Answer.{Answer}
-use Rattle.answer.specs.Answer.{SaidBy, refuse_if, and_then, settled}
+use Rattle.answer.specs.declared.Refusal.TheVariants.{TooShort, RatingsLost}
+use Rattle.answer.specs.Answer.{Answer, Accepted, SaidBy, and_then, refuse_if, settled}
 use Rattle.bits.specs.Field.{Bytes}
 use Rattle.layout.specs.declared.Form.{Form}
 use Rattle.layout.specs.declared.Form.TheVariants.{Old, New}
@@ -27,11 +25,11 @@ would_lose New t = false
 
 -- Refusals of a move: the book's, then 18 where the old form is asked for and the ratings of some branch differ, then 8 where the output is
 -- too short.
-unfoldable pub move_check : List ℕ → Form → ℕ → Outcome
+unfoldable pub move_check : List ℕ → Form → ℕ → Answer
 move_check bs f room =
     and_then (check_of bs)
-    (refuse_if (would_lose f (ratings_differ (book_of bs))) 18
-    (refuse_if (ltb room (bytes_for f (buses_in bs) (branches_in bs))) 8
+    (refuse_if (would_lose f (ratings_differ (book_of bs))) RatingsLost
+    (refuse_if (ltb room (bytes_for f (buses_in bs) (branches_in bs))) TooShort
     Accepted))
 
 abbrev pub move_numbers : List ℕ

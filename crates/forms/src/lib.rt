@@ -11,7 +11,7 @@ ghost use Rattle.layout.specs.Inside.{HeadRead};
 ghost use Rattle.forms.specs.Move.{differs, would_lose, move_check, BookMoved};
 ghost use Rattle.forms.specs.Inside.{Small, Movable};
 
-use answer::{Answer, Outcome};
+use answer::{Answer, Refusal};
 use layout::{Form, Head};
 
 // The ratings of some branch differ.
@@ -19,11 +19,8 @@ fn ratings_differ(book: &[u8], h: Head) -> bool
     requires { Small h }
     ensures { result ≡ some h.branches (λ k. differs (branch_after h.form h.buses book.now k)) }
 {
-    let form = h.form;
-    let buses = h.buses;
-    let count = h.branches;
-    for k in 0..count {
-        let x = layout::branch_at(book, form, buses, k);
+    for k in 0..h.branches {
+        let x = layout::branch_at(book, h.form, h.buses, k);
         if x.kva.0 != x.kva2.0 {
             return true;
         }
@@ -36,38 +33,30 @@ fn would_lose(book: &[u8], h: Head, form: Form) -> bool
     requires { Small h }
     ensures { result ≡ would_lose form (some h.branches (λ k. differs (branch_after h.form h.buses book.now k))) }
 {
-    let Form::Old = form else {
-        return false;
-    };
-    ratings_differ(book, h)
+    form == Form::Old && ratings_differ(book, h)
 }
 
 // Refusals 1 to 7 of the book, then 18, then 8, for so many bytes of output.
-fn check(book: &[u8], h: Head, form: Form, room: usize) -> Outcome
+fn check(book: &[u8], h: Head, form: Form, room: usize) -> Answer
     requires { HeadRead book.now h }
     ensures { result ≡ move_check book.now form room }
 {
-    let found = book::check_with(book, h);
-    let Outcome::Accepted = found else {
-        return found;
-    };
-    let lost = would_lose(book, h, form);
+    book::check_with(book, h)?;
     let short = room < layout::bytes_for(form, h.buses, h.branches);
-    if lost {
-        return answer::refuse(18);
+    if would_lose(book, h, form) {
+        return Err(Refusal::RatingsLost);
     }
     if short {
-        return answer::refuse(8);
+        return Err(Refusal::TooShort);
     }
-    Outcome::Accepted
+    Ok(())
 }
 
 fn move_buses(out: &mut [u8], book: &[u8], h: Head)
     requires { Small h }
     ensures { out.new ≡ put_items bus_widths out.old bus_start (bus_at book.now) h.buses }
 {
-    let buses = h.buses;
-    for k in 0..buses {
+    for k in 0..h.buses {
         layout::put_bus(out, k, layout::bus_at(book, k));
     }
 }
@@ -76,12 +65,10 @@ fn move_branches(out: &mut [u8], book: &[u8], h: Head, form: Form)
     requires { Small h }
     ensures { out.new ≡ put_items (branch_widths form) out.old (branch_start h.buses) (λ k. branch_values form (branch_after h.form h.buses book.now k)) h.branches }
 {
-    let from = h.form;
-    let buses = h.buses;
-    let branches = h.branches;
-    for k in 0..branches {
-        let x = layout::branch_at(book, from, buses, k);
-        layout::put_branch(out, form, buses, k, x);
+    let count = h.branches;
+    for k in 0..count {
+        let x = layout::branch_at(book, h.form, h.buses, k);
+        layout::put_branch(out, form, h.buses, k, x);
     }
 }
 
@@ -92,12 +79,10 @@ fn move_into(out: &mut [u8], book: &[u8], h: Head, form: Form)
 {
     let moved = Head {
         form,
-        buses: h.buses,
-        branches: h.branches,
-        factor: h.factor,
         spare: 0,
+        ..h
     };
-    pack::clear(out);
+    out.fill(0);
     layout::put_head(out, moved);
     move_buses(out, book, h);
     move_branches(out, book, h, form);
@@ -108,11 +93,8 @@ pub fn move_book(book: &[u8], form: Form, out: &mut [u8]) -> Answer
     ensures { BookMoved book.now form out.old out.new result }
 {
     let h = layout::head_of(book);
-    let found = check(book, h, form, out.len());
-    let Outcome::Accepted = found else {
-        return answer::answer_with(found);
-    };
+    check(book, h, form, out.len())?;
     let end = layout::bytes_for(form, h.buses, h.branches);
     move_into(&mut out[..end], book, h, form);
-    answer::answer_with(found)
+    Ok(())
 }

@@ -8,10 +8,9 @@ use borrow.Author.Tests.{ltb-false, eqb-true, not-false, le-ltb, eq-eqb}
 use lib.Dec.{ltb, eqb}
 use lib.ListN.{length}
 use Rattle.rows.specs.Sum.{all, over}
-use Rattle.answer.specs.declared.Outcome.{Outcome}
-use Rattle.answer.specs.declared.Outcome.TheVariants.{Accepted, Refused, Overloaded}
+use Rattle.std.specs.Prelude.{Option, Ok, Err}
 use Rattle.answer.specs.declared.Place.{Place}
-use Rattle.answer.specs.Answer.{number_of, place_of}
+use Rattle.answer.specs.Answer.{Answer, Accepted, number_of, place_of}
 use Rattle.rows.proofs.Row.{either_false}
 use Rattle.answer.proofs.Refusals.{past, past_at, past_both}
 use Rattle.quantity.specs.Signed.{pos_part, neg_part}
@@ -65,14 +64,14 @@ pub accepted_valid : (bs : List ℕ) → check_of bs ≡ Accepted → Valid bs
 unfolding check_of
 accepted_valid bs e =
     let h = past_both (head_check bs) (body_check bs) e in
-    let p₁ = past (ltb (length bs) 4) 1 _ h.0 in
-    let p₂ = past (outside (buses_in bs) (branches_in bs) (factor_in bs)) 2 _ p₁.1 in
-    let p₃ = past (not (eqb (spare_in bs) 0)) 3 _ p₂.1 in
-    let p₄ = past (not (eqb (length bs) (bytes_for (form_in bs) (buses_in bs) (branches_in bs)))) 1 _ p₃.1 in
-    let q₁ = past_at (first_fault (bus_fault_at bs) (buses_in bs)) 4 _ h.1 in
-    let q₂ = past_at (first_fault (branch_fault_at bs) (branches_in bs)) 5 _ q₁.1 in
-    let q₃ = past (not (eqb (tail_in bs) 0)) 6 _ q₂.1 in
-    let q₄ = past (not (balances (buses_in bs) (injection_at bs))) 7 _ q₃.1 in
+    let p₁ = past (ltb (length bs) 4) _ _ h.0 in
+    let p₂ = past (outside (buses_in bs) (branches_in bs) (factor_in bs)) _ _ p₁.1 in
+    let p₃ = past (not (eqb (spare_in bs) 0)) _ _ p₂.1 in
+    let p₄ = past (not (eqb (length bs) (bytes_for (form_in bs) (buses_in bs) (branches_in bs)))) _ _ p₃.1 in
+    let q₁ = past_at (first_fault (bus_fault_at bs) (buses_in bs)) _ _ h.1 in
+    let q₂ = past_at (first_fault (branch_fault_at bs) (branches_in bs)) _ _ q₁.1 in
+    let q₃ = past (not (eqb (tail_in bs) 0)) _ _ q₂.1 in
+    let q₄ = past (not (balances (buses_in bs) (injection_at bs))) _ _ q₃.1 in
     record {
       range = in_range _ _ _ p₂.0;
       spare = eqb-true _ _ (not-false _ p₃.0);
@@ -104,21 +103,19 @@ pub decode_accepted : (bs : List ℕ) → check_of bs ≡ Accepted → decode bs
 unfolding decode
 decode_accepted bs e = rw e refl
 
-taken : (o : Outcome) (b b' : Book) → decided o b ≡ book b' → (o ≡ Accepted) × (b ≡ b')
-taken Accepted b b' e = (refl, cc)
-taken (Refused why) b b' e = let z : ◌≡◌ {A = ℕ} 0 1 = cc in absurd (omega arith)
-taken (Overloaded kw) b b' e = let z : ◌≡◌ {A = ℕ} 0 1 = cc in absurd (omega arith)
+taken : (o : Answer) (b b' : Book) → decided o b ≡ book b' → (o ≡ Accepted) × (b ≡ b')
+taken (Ok _) b b' e = (refl, cc)
+taken (Err why) b b' e = absurd (cc)
 
 pub decoded : (bs : List ℕ) (b : Book) → decode bs ≡ book b → (check_of bs ≡ Accepted) × (book_of bs ≡ b)
 unfolding decode
 decoded bs b e = taken (check_of bs) (book_of bs) b e
 
 -- A refused book is refused by the number and the place of the first test that fails.
-pub decode_refused : (bs : List ℕ) (n : ℕ) (w : Place) → decode bs ≡ refused n w → (number_of (check_of bs) ≡ n) × (place_of (check_of bs) ≡ w)
+pub decode_refused : (bs : List ℕ) (n : ℕ) (w : Option Place) → decode bs ≡ refused n w → (number_of (check_of bs) ≡ n) × (place_of (check_of bs) ≡ w)
 unfolding decode
 decode_refused bs n w e = go (check_of bs) e
   where
-    go : (o : Outcome) → decided o (book_of bs) ≡ refused n w → (number_of o ≡ n) × (place_of o ≡ w)
-    go Accepted q = let z : ◌≡◌ {A = ℕ} 0 1 = cc in absurd (omega arith)
-    go (Refused why) q = (cc, cc)
-    go (Overloaded kw) q = (cc, cc)
+    go : (o : Answer) → decided o (book_of bs) ≡ refused n w → (number_of o ≡ n) × (place_of o ≡ w)
+    go (Ok _) q = absurd (cc)
+    go (Err why) q = (cc, cc)

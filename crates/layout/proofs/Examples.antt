@@ -9,7 +9,7 @@ use Rattle.rows.specs.Bit.{bit_at}
 use Rattle.rows.specs.Sum.{over}
 use Rattle.bits.specs.Field.{field, with_bit, set_bit, put}
 use Rattle.bits.specs.Fields.{put_items}
-use Rattle.answer.specs.declared.Place.TheVariants.{Nowhere, At}
+use Rattle.answer.specs.Answer.{At, Nowhere}
 use Rattle.layout.specs.declared.Form.TheVariants.{Old, New}
 use Rattle.layout.specs.declared.Branch.{Branch}
 use Rattle.layout.specs.Book.{Book, in_form}

@@ -1,5 +1,5 @@
 -- Laws of faults: no fault is a good item, and the first fault of many, one by one.
-use mathlib.Core.Path.{◌≡◌, refl, ◌∙◌}
+use mathlib.Core.Path.{◌≡◌, refl, ap, ◌∙◌}
 use mathlib.Core.Bool.{Bool, true, false, ◌&&◌}
 use Prim.Native.Nat.{ℕ, zero, suc, ◌+◌, ◌<◌, ◌≤◌}
 use native.Mathlib.Omega.{arith}
@@ -7,8 +7,9 @@ use native.Mathlib.Numerals.{add-one}
 use borrow.Author.Tests.{ltb-false, leb-false, eqb-true, eqb-false, le-ltb, lt-leb, eq-eqb, ne_eqb}
 use lib.Dec.{ltb, leb, eqb}
 use Rattle.rows.proofs.Sum.{side, below, equal, above}
+use Rattle.std.specs.Prelude.{Option, Some, None}
 use Rattle.answer.specs.declared.Place.{Place}
-use Rattle.answer.specs.declared.Place.TheVariants.{Nowhere, At}
+use Rattle.answer.specs.Answer.{At, Nowhere, item_of, field_of}
 use Rattle.layout.specs.declared.Form.{Form}
 use Rattle.layout.specs.declared.Branch.{Branch}
 use Rattle.layout.specs.Book.{GoodBranch}
@@ -88,9 +89,9 @@ branch_sound f n x g =
 
 -- ---- the first of many
 
-past_sound : (a b : Place) → or_else a b ≡ Nowhere → (a ≡ Nowhere) × (b ≡ Nowhere)
-past_sound Nowhere b e = (refl, e)
-past_sound (At i j) b e = let z : ◌≡◌ {A = ℕ} 0 1 = cc in absurd (omega arith)
+past_sound : (a b : Option Place) → or_else a b ≡ Nowhere → (a ≡ Nowhere) × (b ≡ Nowhere)
+past_sound None b e = (refl, e)
+past_sound (Some at) b e = absurd (cc)
 
 no_fault : (i j : ℕ) → fault_at i j ≡ Nowhere → j ≡ 0
 no_fault i zero e = refl
@@ -146,8 +147,8 @@ module _ (f : ℕ → ℕ) where
       here : (v : ℕ) → f n ≡ v → first_fault f n ≡ Nowhere → fault_at n v ≡ At i j → First f (suc n) i j
       here zero h s q = let z : ◌≡◌ {A = ℕ} 0 1 = cc in absurd (omega arith)
       here (suc v) h s q =
-          let a : n ≡ i = cc in
-          let b : suc v ≡ j = cc in
+          let a : n ≡ i = ap item_of q in
+          let b : suc v ≡ j = ap field_of q in
           record {
             there = omega arith;
             its_field = rw (← a) (h ∙ b);
@@ -155,8 +156,8 @@ module _ (f : ℕ → ℕ) where
             before = λ k l. first_sound n s k (omega arith);
           }
 
-      go : (r : Place) → first_fault f n ≡ r → or_else r (fault_at n (f n)) ≡ At i j → ((i j : ℕ) → first_fault f n ≡ At i j → First f n i j) → First f (suc n) i j
-      go Nowhere s q rec = here (f n) refl s q
-      go (At a b) s q rec =
+      go : (r : Option Place) → first_fault f n ≡ r → or_else r (fault_at n (f n)) ≡ At i j → ((i j : ℕ) → first_fault f n ≡ At i j → First f n i j) → First f (suc n) i j
+      go None s q rec = here (f n) refl s q
+      go (Some at) s q rec =
           let w = rec i j (s ∙ q) in
           record { there = omega (arith, w.there); its_field = w.its_field; a_field = w.a_field; before = w.before }

@@ -5,6 +5,7 @@ use Prim.Native.Nat.{ℕ, zero, suc, ◌+◌, ◌-◌, ◌*◌, ◌<◌, ◌≤�
 use native.Mathlib.Nat.{mul-le-mul, mul-le-mul_left}
 use native.Mathlib.Omega.{arith}
 use lib.ListN.{length}
+use Rattle.std.specs.Prelude.{Some}
 use Rattle.rows.specs.Row.{nth, up_to}
 use Rattle.quantity.specs.Rating.{in_kva}
 use Rattle.bits.specs.Field.{field}
@@ -15,6 +16,7 @@ use Rattle.layout.specs.declared.Branch.{Branch}
 use Rattle.layout.specs.Form.{form_of, form_bit, in_new, branch_widths, fields, branch_values, branch_of}
 use Rattle.layout.specs.Book.{GoodBranch}
 use Rattle.layout.specs.Layout.{bits_for}
+use Rattle.layout.specs.Fault.{field_at}
 use Rattle.layout.specs.Inside.{Numbered, Numbers, Wide, Placed}
 
 pub form_bit_lem : (f : Form) → form_of (form_bit f) ≡ f
@@ -34,6 +36,11 @@ bit_fits New = omega arith
 pub numbered : (f : Form) → Numbered f (fields f)
 numbered Old = record { count_is = refl; some = omega arith; few = omega arith }
 numbered New = record { count_is = refl; some = omega arith; few = omega arith }
+
+-- The last field is one that can be at fault: its number isn't 0.
+pub last_field : (f : Form) → Some (fields f) ≡ field_at (fields f)
+last_field Old = refl
+last_field New = refl
 
 pub wide : (f : Form) → Wide f (total (branch_widths f))
 wide Old = record { width_is = refl; some = omega arith; few = omega arith }

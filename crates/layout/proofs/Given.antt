@@ -6,7 +6,8 @@ use Prim.Native.Nat.{ℕ}
 use lib.Dec.{ltb, eqb}
 use lib.ListN.{length}
 use Rattle.rows.specs.Row.{member}
-use Rattle.answer.specs.declared.Outcome.TheVariants.{Accepted}
+use Rattle.answer.specs.declared.Refusal.TheVariants.{WrongLength, CountsOutside, HeaderFill, BusWrong, BranchWrong, TailFill, NotBalanced}
+use Rattle.answer.specs.Answer.{Accepted}
 use Rattle.answer.proofs.Numbers.{Gives, gives_if, gives_at, gives_then}
 use Rattle.layout.specs.Fault.{first_fault}
 use Rattle.layout.specs.Layout.{bytes_for, buses_in, branches_in, factor_in, form_in, spare_in, injection_at, tail_in}
@@ -16,11 +17,11 @@ pub check_gives : (bs : List ℕ) → Gives check_numbers (check_of bs)
 unfolding check_of member
 check_gives bs =
     gives_then check_numbers (head_check bs) (body_check bs)
-    (gives_if check_numbers (ltb (length bs) 4) 1 _ refl
-    (gives_if check_numbers (outside (buses_in bs) (branches_in bs) (factor_in bs)) 2 _ refl
-    (gives_if check_numbers (not (eqb (spare_in bs) 0)) 3 _ refl
-    (gives_if check_numbers (not (eqb (length bs) (bytes_for (form_in bs) (buses_in bs) (branches_in bs)))) 1 Accepted refl tt))))
-    (gives_at check_numbers (first_fault (bus_fault_at bs) (buses_in bs)) 4 _ refl
-    (gives_at check_numbers (first_fault (branch_fault_at bs) (branches_in bs)) 5 _ refl
-    (gives_if check_numbers (not (eqb (tail_in bs) 0)) 6 _ refl
-    (gives_if check_numbers (not (balances (buses_in bs) (injection_at bs))) 7 Accepted refl tt))))
+    (gives_if check_numbers (ltb (length bs) 4) WrongLength _ refl
+    (gives_if check_numbers (outside (buses_in bs) (branches_in bs) (factor_in bs)) CountsOutside _ refl
+    (gives_if check_numbers (not (eqb (spare_in bs) 0)) HeaderFill _ refl
+    (gives_if check_numbers (not (eqb (length bs) (bytes_for (form_in bs) (buses_in bs) (branches_in bs)))) WrongLength Accepted refl tt))))
+    (gives_at check_numbers (first_fault (bus_fault_at bs) (buses_in bs)) BusWrong _ (λ at. refl)
+    (gives_at check_numbers (first_fault (branch_fault_at bs) (branches_in bs)) BranchWrong _ (λ at. refl)
+    (gives_if check_numbers (not (eqb (tail_in bs) 0)) TailFill _ refl
+    (gives_if check_numbers (not (balances (buses_in bs) (injection_at bs))) NotBalanced Accepted refl tt))))

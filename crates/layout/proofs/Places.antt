@@ -8,11 +8,10 @@ use borrow.Author.Tests.{lt-ltb, le-ltb, lt-leb, le-leb}
 use lib.Dec.{ltb, leb, eqb}
 use lib.ListN.{length, get_or}
 use Rattle.rows.proofs.Sum.{side, below, equal, above}
+use Rattle.std.specs.Prelude.{Option, Some, None}
 use Rattle.answer.specs.declared.Place.{Place}
-use Rattle.answer.specs.declared.Place.TheVariants.{Nowhere, At}
-use Rattle.answer.specs.declared.Outcome.{Outcome}
-use Rattle.answer.specs.declared.Outcome.TheVariants.{Accepted}
-use Rattle.answer.specs.Answer.{number_of, place_of, refuse_if, refuse_at}
+use Rattle.answer.specs.declared.Refusal.TheVariants.{BusWrong, BranchWrong, TailFill, NotBalanced}
+use Rattle.answer.specs.Answer.{Answer, Accepted, At, Nowhere, number_of, place_of, refuse_at, refuse_if}
 use Rattle.answer.proofs.Refusals.{if_nowhere, at_not_nowhere, placed_after}
 use Rattle.quantity.specs.declared.Kva.{Kva}
 use Rattle.rows.specs.Row.{nth}
@@ -180,7 +179,7 @@ module _ (f : ℕ → ℕ) (rules : ℕ → List Bool) (is : (k : ℕ) → f k �
 -- ---- the place of a refusal
 
 -- Of buses and of branches made of their numbers, in either form, whatever comes after them without a place.
-module _ (f : Form) (n m : ℕ) (bus : ℕ → List ℕ) (numbers : ℕ → ℕ → ℕ) (rest : Outcome) where
+module _ (f : Form) (n m : ℕ) (bus : ℕ → List ℕ) (numbers : ℕ → ℕ → ℕ) (rest : Answer) where
   abbrev branch : ℕ → Branch
   branch k = branch_of f (numbers k)
 
@@ -190,8 +189,8 @@ module _ (f : Form) (n m : ℕ) (bus : ℕ → List ℕ) (numbers : ℕ → ℕ 
   abbrev of_branch : ℕ → ℕ
   of_branch k = branch_fault f n (branch k)
 
-  pub wrong_of : {i j : ℕ} → place_of rest ≡ Nowhere → place_of (refuse_at (first_fault of_bus n) 4 (refuse_at (first_fault of_branch m) 5 rest)) ≡ At i j
-      → Wrong f n m bus branch (number_of (refuse_at (first_fault of_bus n) 4 (refuse_at (first_fault of_branch m) 5 rest))) i j
+  pub wrong_of : {i j : ℕ} → place_of rest ≡ Nowhere → place_of (refuse_at (first_fault of_bus n) BusWrong (refuse_at (first_fault of_branch m) BranchWrong rest)) ≡ At i j
+      → Wrong f n m bus branch (number_of (refuse_at (first_fault of_bus n) BusWrong (refuse_at (first_fault of_branch m) BranchWrong rest))) i j
   wrong_of {i} {j} r e = go (first_fault of_bus n) refl (first_fault of_branch m) refl e
     where
       in_bus : (k : ℕ) → of_bus k ≡ first_broken (bus_rules (bus k))
@@ -200,29 +199,29 @@ module _ (f : Form) (n m : ℕ) (bus : ℕ → List ℕ) (numbers : ℕ → ℕ 
       in_branch : (k : ℕ) → of_branch k ≡ first_broken (branch_rules f n (branch k))
       in_branch k = branch_broken f n (branch k) (one_figure f (numbers k))
 
-      go : (w : Place) → first_fault of_bus n ≡ w → (v : Place) → first_fault of_branch m ≡ v → place_of (refuse_at w 4 (refuse_at v 5 rest)) ≡ At i j
-          → Wrong f n m bus branch (number_of (refuse_at w 4 (refuse_at v 5 rest))) i j
-      go (At a b) w v x s = at_bus refl (broken_first of_bus _ in_bus n i j (w ∙ s))
-      go Nowhere w (At a b) x s = at_branch refl (sound_all of_bus _ in_bus n w) (broken_first of_branch _ in_branch m i j (x ∙ s))
-      go Nowhere w Nowhere x s = absurd (at_not_nowhere r s)
+      go : (w : Option Place) → first_fault of_bus n ≡ w → (v : Option Place) → first_fault of_branch m ≡ v → place_of (refuse_at w BusWrong (refuse_at v BranchWrong rest)) ≡ At i j
+          → Wrong f n m bus branch (number_of (refuse_at w BusWrong (refuse_at v BranchWrong rest))) i j
+      go (Some at) w v x s = at_bus refl (broken_first of_bus _ in_bus n i j (w ∙ s))
+      go None w (Some at) x s = at_branch refl (sound_all of_bus _ in_bus n w) (broken_first of_branch _ in_branch m i j (x ∙ s))
+      go None w None x s = absurd (at_not_nowhere r s)
 
 module _ (bs : List ℕ) where
   head_nowhere : place_of (head_check bs) ≡ Nowhere
   head_nowhere =
-      if_nowhere (ltb (length bs) 4) 1 _
-      (if_nowhere (outside (buses_in bs) (branches_in bs) (factor_in bs)) 2 _
-      (if_nowhere (not (eqb (spare_in bs) 0)) 3 _
-      (if_nowhere (not (eqb (length bs) (bytes_for (form_in bs) (buses_in bs) (branches_in bs)))) 1 Accepted refl)))
+      if_nowhere (ltb (length bs) 4) _ _ refl
+      (if_nowhere (outside (buses_in bs) (branches_in bs) (factor_in bs)) _ _ refl
+      (if_nowhere (not (eqb (spare_in bs) 0)) _ _ refl
+      (if_nowhere (not (eqb (length bs) (bytes_for (form_in bs) (buses_in bs) (branches_in bs)))) _ Accepted refl refl)))
 
-  rest_nowhere : place_of (refuse_if (not (eqb (tail_in bs) 0)) 6 (refuse_if (not (balances (buses_in bs) (injection_at bs))) 7 Accepted)) ≡ Nowhere
-  rest_nowhere = if_nowhere (not (eqb (tail_in bs) 0)) 6 _ (if_nowhere (not (balances (buses_in bs) (injection_at bs))) 7 Accepted refl)
+  rest_nowhere : place_of (refuse_if (not (eqb (tail_in bs) 0)) TailFill (refuse_if (not (balances (buses_in bs) (injection_at bs))) NotBalanced Accepted)) ≡ Nowhere
+  rest_nowhere = if_nowhere (not (eqb (tail_in bs) 0)) _ _ refl (if_nowhere (not (balances (buses_in bs) (injection_at bs))) _ Accepted refl refl)
 
   -- A book that is refused with a place is wrong there.
   pub check_wrong : {i j : ℕ} → place_of (check_of bs) ≡ At i j → WrongIn bs (number_of (check_of bs)) i j
   unfolding check_of
   check_wrong {i} {j} e =
       let o = placed_after (head_check bs) (body_check bs) head_nowhere e in
-      subst (λ (x : Outcome). WrongIn bs (number_of x) i j) (sym o)
+      subst (λ (x : Answer). WrongIn bs (number_of x) i j) (sym o)
       (wrong_of (form_in bs) (buses_in bs) (branches_in bs) (bus_at bs) (λ k. nth (item (branch_widths (form_in bs)) bs (branch_start (buses_in bs)) k)) _
       rest_nowhere (ap place_of (sym o) ∙ e))
 

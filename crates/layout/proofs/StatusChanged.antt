@@ -7,7 +7,7 @@ use native.Mathlib.Nat.{mul-le-mul_left}
 use native.Mathlib.Omega.{arith}
 use lib.ListN.{length, get_or, set, length-set}
 use lib.Seq.{get_or-set_same, get_or-set_other}
-use Rattle.answer.specs.declared.Outcome.TheVariants.{Accepted}
+use Rattle.answer.specs.Answer.{Accepted}
 use Rattle.rows.specs.Row.{nth, up_to}
 use Rattle.rows.specs.Bit.{bit_at}
 use Rattle.rows.specs.Sum.{all}

@@ -7,7 +7,7 @@ use native.Mathlib.Decide.{ℕ_discrete}
 use lib.ListN.{length}
 use Rattle.rows.specs.Row.{nth}
 use Rattle.rows.specs.Bit.{bit_at}
-use Rattle.answer.specs.declared.Outcome.TheVariants.{Accepted}
+use Rattle.answer.specs.Answer.{Accepted}
 use Rattle.bits.specs.Field.{set_bit}
 use Rattle.bits.proofs.ReadAsPut.{length_set_bit, set_bit_above, bit_other, ext_row}
 use Rattle.layout.specs.Layout.{branches_in, status_bit}

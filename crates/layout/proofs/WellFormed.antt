@@ -5,7 +5,7 @@ use Prim.Native.Nat.{ℕ, ◌<◌}
 use native.Mathlib.Omega.{arith}
 use lib.IntN.{ℤ, pos}
 use Rattle.rows.specs.Row.{nth}
-use Rattle.answer.specs.declared.Outcome.TheVariants.{Accepted}
+use Rattle.answer.specs.Answer.{Accepted}
 use Rattle.rows.specs.Sum.{all, over, sum}
 use Rattle.rows.proofs.Row.{length_up_to, get_d_up_to}
 use Rattle.quantity.specs.Signed.{pos_part, neg_part}

@@ -1,7 +1,7 @@
 -- Faults of buses and branches: the field at fault of one item, and the place of the first fault of many.
-use Rattle.std.specs.Prelude.{Bool, true, false, ◌&&◌, ℕ, zero, suc, ltb, leb, eqb}
+use Rattle.std.specs.Prelude.{Bool, true, false, ◌&&◌, ℕ, zero, suc, ltb, leb, eqb, Option, Some, None}
 use Rattle.answer.specs.declared.Place.{Place}
-use Rattle.answer.specs.declared.Place.TheVariants.{Nowhere, At}
+use Rattle.answer.specs.Answer.{At, Nowhere}
 use Rattle.layout.specs.declared.Form.{Form}
 use Rattle.layout.specs.declared.Branch.{Branch}
 use Rattle.layout.specs.Form.{fields}
@@ -28,15 +28,20 @@ branch_fault f n x =
     (fault_if (ltb 1 x.status) (fields f)
     0))))))
 
-abbrev pub fault_at : ℕ → ℕ → Place
+abbrev pub fault_at : ℕ → ℕ → Option Place
 fault_at item zero = Nowhere
 fault_at item (suc field) = At item (suc field)
 
-abbrev pub or_else : Place → Place → Place
-or_else Nowhere next = next
-or_else (At item field) next = At item field
+-- The same of one item alone.
+abbrev pub field_at : ℕ → Option ℕ
+field_at zero = None
+field_at (suc field) = Some (suc field)
+
+abbrev pub or_else : Option Place → Option Place → Option Place
+or_else None next = next
+or_else (Some at) next = Some at
 
 -- The first fault of items 0, 1, .., n - 1: the first offending item, and in it the first offending field.
-unfoldable pub first_fault : (ℕ → ℕ) → ℕ → Place
+unfoldable pub first_fault : (ℕ → ℕ) → ℕ → Option Place
 first_fault f zero = Nowhere
 first_fault f (suc n) = or_else (first_fault f n) (fault_at n (f n))

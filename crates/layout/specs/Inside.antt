@@ -1,5 +1,5 @@
 -- The header, a bus and sums of injections as inner functions pass them.
-use Rattle.std.specs.Prelude.{◌≡◌, List, [], ◌∷◌, ℕ, ◌+◌, ◌*◌, ◌≤◌, ℤ}
+use Rattle.std.specs.Prelude.{◌≡◌, List, [], ◌∷◌, ℕ, ◌+◌, ◌*◌, ◌≤◌, ◌<◌, ℤ}
 use Rattle.rows.specs.Row.{nth}
 use Rattle.quantity.specs.Signed.{pos_part, neg_part}
 use Rattle.bits.specs.Fields.{total}
@@ -51,3 +51,10 @@ bus_fields x = x.sign ∷ x.size ∷ []
 pub record CountedIn (s : Sums) (x : ℤ) (r : Sums) : Type 0 where
   pub enters_more : r.enters ≡ s.enters + pos_part x
   pub leaves_more : r.leaves ≡ s.leaves + neg_part x
+
+-- What is lent to tell something of each of n items may be asked of them, and what it tells is f.
+abbrev pub Asked : ℕ → (ℕ → Type 0) → Type 0
+Asked n pre = (k : ℕ) → k < n → pre k
+
+abbrev pub Tells : {A : Type 0} → ℕ → (ℕ → A → Type 0) → (ℕ → A) → Type 0
+Tells {A = A} n post f = (k : ℕ) → k < n → (x : A) → post k x → x ≡ f k

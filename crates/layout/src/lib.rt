@@ -1,24 +1,46 @@
 // The layout of a packed book in its two forms: header, buses and branches, each read and put beside each other, and which field is at fault.
 #![tactic(auto)]
 
-ghost use Rattle.std.specs.Prelude.{◌≡◌, [], ◌∷◌, ◌≤◌, ◌<◌};
+ghost use Rattle.std.specs.Prelude.{◌≡◌, ℕ, ℤ, [], ◌∷◌, ◌≤◌, ◌<◌};
 ghost use Rattle.layout.specs.Book.{size};
-ghost use Rattle.layout.specs.Fault.{bus_fault, branch_fault};
+ghost use Rattle.layout.specs.Fault.{bus_fault, branch_fault, field_at, first_fault};
 ghost use Rattle.bits.specs.Field.{set_bit};
 ghost use Rattle.bits.specs.Fields.{place, puts};
 ghost use Rattle.layout.specs.Form.{in_new, form_of, form_bit, branch_widths, branch_values};
 ghost use Rattle.layout.specs.Layout.{head_widths, bus_widths, bus_start, status_bit, bits_for, bytes_for};
 ghost use Rattle.layout.specs.Layout.{bus_at, branch_after};
+ghost use Rattle.layout.specs.Inside.{Asked, Tells};
 ghost use Rattle.layout.specs.Inside.{CountedIn, HeadRead, Numbered, Numbers, Wide, Placed, head_fields, bus_from, bus_fields};
-ghost use Rattle.layout.specs.Check.{outside};
+ghost use Rattle.layout.specs.Check.{outside, balances};
 
+use answer::Place;
 use quantity::Kva;
 
 // A branch of a new book has a second kVA, after the first.
-#[derive(Clone, Copy)]
+#[derive(Clone, Copy, Debug, PartialEq, Eq)]
 pub enum Form {
     Old,
     New,
+}
+
+// The form of a layout bit: 1 is new, and any other number asks for the old one.
+impl From<u32> for Form {
+    ghost from_gives = { λ bit form. form ≡ form_of bit };
+
+    fn from(bit: u32) -> Form {
+        if bit == 1 { Form::New } else { Form::Old }
+    }
+}
+
+impl From<Form> for u32 {
+    ghost from_gives = { λ form bit. bit ≡ form_bit form };
+
+    fn from(form: Form) -> u32 {
+        match form {
+            Form::Old => 0,
+            Form::New => 1,
+        }
+    }
 }
 
 // The form, the counts, the power factor and the fill bits of a book.
@@ -48,19 +70,15 @@ pub struct Branch {
     pub status: u32,
 }
 
-// The field of a bus that is at fault, and 0 where none is.
-pub fn bus_fault(x: Bus) -> u8
-    ensures { result ≡ bus_fault x.sign x.size }
+// The field of a bus that is at fault.
+#[tactic(auto, unfolding(crate::specs::Fault::bus_fault))]
+pub fn bus_fault(x: Bus) -> Option<u8>
+    ensures { result ≡ field_at (bus_fault x.sign x.size) }
 {
     if 1000000 < x.size {
-        return 2;
+        return Some(2);
     }
-    if x.sign == 1 {
-        if x.size == 0 {
-            return 2;
-        }
-    }
-    0
+    (x.sign == 1 && x.size == 0).then_some(2)
 }
 
 // How many numbers a branch has.
@@ -81,51 +99,53 @@ pub fn numbers(form: Form, branches: usize) -> usize
     fields(form) * branches
 }
 
-// The field of a branch that is at fault, and 0 where none is.
-pub fn branch_fault(form: Form, buses: usize, x: Branch) -> u8
-    ensures { result ≡ branch_fault form buses x }
+// The field of a branch that is at fault.
+#[tactic(auto, using(crate::proofs::Forms::last_field), unfolding(crate::specs::Fault::branch_fault))]
+pub fn branch_fault(form: Form, buses: usize, x: Branch) -> Option<u8>
+    ensures { result ≡ field_at (branch_fault form buses x) }
 {
     if buses <= x.first as usize {
-        return 1;
+        return Some(1);
     }
     if buses <= x.second as usize {
-        return 2;
+        return Some(2);
     }
     if x.first == x.second {
-        return 2;
+        return Some(2);
     }
     if 1000000 < x.kva.0 {
-        return 3;
+        return Some(3);
     }
     if x.kva2.0 < x.kva.0 {
-        return 4;
+        return Some(4);
     }
     if 1000000 < x.kva2.0 {
-        return 4;
+        return Some(4);
     }
     if 1 < x.status {
-        return fields(form) as u8;
+        return Some(fields(form) as u8);
     }
-    0
+    None
+}
+
+// The place of the first of so many items that is at fault, where `fault` tells the field of each.
+pub fn first_fault<F: Fn(usize) -> Option<u8>>(count: usize, fault: F) -> Option<Place>
+    requires { Asked count (F.pre fault) }
+    ensures { (f : ℕ → ℕ) → Tells count (F.post fault) (λ k. field_at (f k)) → result ≡ first_fault f count }
+{
+    for k in 0..count {
+        if let Some(field) = fault(k) {
+            return Some(Place { item: k, field });
+        }
+    }
+    None
 }
 
 // A count or the power factor is outside its range.
 pub fn is_outside(buses: usize, branches: usize, factor: u32) -> bool
     ensures { result ≡ outside buses branches factor }
 {
-    if buses < 1 {
-        return true;
-    }
-    if 128 < buses {
-        return true;
-    }
-    if 256 < branches {
-        return true;
-    }
-    if factor < 1 {
-        return true;
-    }
-    1000 < factor
+    !(1..=128).contains(&buses) || 256 < branches || !(1..=1000).contains(&factor)
 }
 
 // What enters and what leaves over some buses.
@@ -144,6 +164,23 @@ pub fn count_in(s: Sums, x: i32) -> Sums
         enters: s.enters + quantity::above(x),
         leaves: s.leaves + quantity::below(x),
     }
+}
+
+// What enters at so many buses is what leaves.
+pub fn is_balanced<F: Fn(usize) -> i32>(buses: usize, injection: F) -> bool
+    requires few { buses ≤ 128 }
+    requires asked { Asked buses (F.pre injection) }
+    requires small { (k : ℕ) → k < buses → (x : ℤ) → F.post injection k x → size x ≤ 1048576 }
+    ensures { (h : ℕ → ℤ) → Tells buses (F.post injection) h → result ≡ balances buses h }
+{
+    let mut sums = Sums {
+        enters: 0,
+        leaves: 0,
+    };
+    for k in 0..buses {
+        sums = count_in(sums, injection(k));
+    }
+    sums.enters == sums.leaves
 }
 
 // The first bit of bus k.
@@ -180,28 +217,12 @@ pub fn bytes_for(form: Form, buses: usize, branches: usize) -> usize
     (branch_place(form, buses, branches) + 7) / 8
 }
 
-// The form of a layout bit: 1 is new.
-pub fn form_of(bit: u32) -> Form
-    ensures { result ≡ form_of bit }
-{
-    if bit == 1 { Form::New } else { Form::Old }
-}
-
-fn form_bit(form: Form) -> u32
-    ensures { result ≡ form_bit form }
-{
-    match form {
-        Form::Old => 0,
-        Form::New => 1,
-    }
-}
-
 // The header, read and put.
 pub fn head_of(book: &[u8]) -> Head
     ensures { HeadRead book.now result }
 {
     Head {
-        form: form_of(bits::field(book, 27, 1)),
+        form: Form::from(bits::field(book, 27, 1)),
         buses: bits::field(book, 0, 8) as usize,
         branches: bits::field(book, 8, 9) as usize,
         factor: bits::field(book, 17, 10),
@@ -216,8 +237,7 @@ pub fn put_head(out: &mut [u8], h: Head)
     bits::put(out, 0, 8, h.buses as u32);
     bits::put(out, 8, 9, h.branches as u32);
     bits::put(out, 17, 10, h.factor);
-    let form = h.form;
-    bits::put(out, 27, 1, form_bit(form));
+    bits::put(out, 27, 1, u32::from(h.form));
     bits::put(out, 28, 4, h.spare);
 }
 

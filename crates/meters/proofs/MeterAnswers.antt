@@ -1,9 +1,8 @@
 -- Each way in which the call ends meets its promise.
 use mathlib.Core.Path.{◌≡◌, refl, sym, ap}
 use mathlib.Core.Bool.{Bool, true, false, cond, not, ◌&&◌, ◌||◌}
-use mathlib.Core.Logic.{◌⊎◌, ⊎_elim}
 use mathlib.Core.List.{List}
-use Prim.Native.Nat.{ℕ, ◌+◌, ◌*◌, ◌<◌, ◌≤◌}
+use Prim.Native.Nat.{ℕ, ◌+◌, ◌-◌, ◌*◌, ◌<◌, ◌≤◌}
 use native.Mathlib.Omega.{arith}
 use borrow.Author.Tests.{le-leb, lt-leb, lt-ltb, le-ltb, ltb-false, eqb-true, not-false}
 use lib.Dec.{eqb, ltb}
@@ -11,9 +10,8 @@ use lib.IntN.{ℤ, pos, neg_ℤ, nat_abs, ◌-ℤ◌}
 use lib.ListN.{length}
 use Rattle.rows.specs.Row.{some, headed}
 use Rattle.rows.specs.Sum.{pick, over, sum}
-use Rattle.answer.specs.Answer.{bare, accepted, refused, refuse_if}
-use Rattle.answer.specs.declared.Outcome.{Outcome}
-use Rattle.answer.specs.declared.Outcome.TheVariants.{Accepted}
+use Rattle.answer.specs.declared.Refusal.TheVariants.{ListsUneven, NoSuchSupply, AdvanceTooFar, SupplyOutside}
+use Rattle.answer.specs.Answer.{Answer, Accepted, refuse_if, refused}
 use Rattle.answer.proofs.Refusals.{past, stands, refusal_stands, leaves}
 use Rattle.rows.proofs.Row.{either_false, no_some}
 use Rattle.rows.proofs.Sum.{over_add, over_same, over_bound}
@@ -22,8 +20,9 @@ use Rattle.quantity.proofs.Parts.{sum_parts, minus_parts, by_parts, neg_pos, neg
 use Rattle.meters.proofs.Given.{meter_said}
 use Rattle.meters.specs.Registers.{Registers, buses, imported, exported, others, metered, supplied, shape, too_far, answer_to}
 use Rattle.meters.specs.Promise.{Metered}
-use Rattle.meters.specs.Inside.{Even, totals_of, with_supply}
-use Rattle.meters.specs.declared.Totals.TheVariants.{Sums, TooFar}
+use Rattle.std.specs.Prelude.{Option, Some, None}
+use Rattle.meters.specs.declared.Passed.{Passed}
+use Rattle.meters.specs.Inside.{Even, totals_of, with_supply, Sums, TooFar}
 
 module _ (R : Registers) where
   abbrev pub took : ℕ
@@ -55,14 +54,13 @@ module _ (R : Registers) where
       ))
 
 -- The size of a difference against the largest injection.
-outside : (a b : ℕ) → (b + 1000000 < a) ⊎ (a + 1000000 < b) → ltb 1000000 (nat_abs (pos a -ℤ pos b)) ≡ true
+outside : (a b : ℕ) → 1000000 < (a - b) + (b - a) → ltb 1000000 (nat_abs (pos a -ℤ pos b)) ≡ true
 outside a b h =
     let z = pos a -ℤ pos b in
-    lt-ltb 1000000 (nat_abs z)
-    (⊎_elim (λ g. omega (arith, size_parts z, minus_parts (pos a) (pos b), one_side z)) (λ g. omega (arith, size_parts z, minus_parts (pos a) (pos b), one_side z)) h)
+    lt-ltb 1000000 (nat_abs z) (omega (arith, size_parts z, minus_parts (pos a) (pos b), one_side z))
 
-inside : (a b : ℕ) → a ≤ b + 1000000 → b ≤ a + 1000000 → ltb 1000000 (nat_abs (pos a -ℤ pos b)) ≡ false
-inside a b g h =
+inside : (a b : ℕ) → (a - b) + (b - a) ≤ 1000000 → ltb 1000000 (nat_abs (pos a -ℤ pos b)) ≡ false
+inside a b h =
     let z = pos a -ℤ pos b in
     le-ltb 1000000 (nat_abs z) (omega (arith, size_parts z, minus_parts (pos a) (pos b), one_side z))
 
@@ -70,17 +68,17 @@ inside a b g h =
 pub shaped : (R : Registers) (room : ℕ) → shape R room ≡ Accepted → Even R × (buses R ≤ room)
 shaped R room e =
     let n = buses R in
-    let room_for = refuse_if (ltb room n) 13 Accepted in
-    let few = refuse_if (ltb 128 n) 13 room_for in
-    let one = refuse_if (ltb n 1) 13 few in
-    let fourth = refuse_if (not (eqb (length R.export_end) n)) 13 one in
-    let third = refuse_if (not (eqb (length R.export_start) n)) 13 fourth in
-    let a = past (not (eqb (length R.import_end) n)) 13 third e in
-    let b = past (not (eqb (length R.export_start) n)) 13 fourth a.1 in
-    let c = past (not (eqb (length R.export_end) n)) 13 one b.1 in
-    let d = past (ltb n 1) 13 few c.1 in
-    let f = past (ltb 128 n) 13 room_for d.1 in
-    let g = past (ltb room n) 13 Accepted f.1 in (
+    let room_for = refuse_if (ltb room n) ListsUneven Accepted in
+    let few = refuse_if (ltb 128 n) ListsUneven room_for in
+    let one = refuse_if (ltb n 1) ListsUneven few in
+    let fourth = refuse_if (not (eqb (length R.export_end) n)) ListsUneven one in
+    let third = refuse_if (not (eqb (length R.export_start) n)) ListsUneven fourth in
+    let a = past (not (eqb (length R.import_end) n)) _ third e in
+    let b = past (not (eqb (length R.export_start) n)) _ fourth a.1 in
+    let c = past (not (eqb (length R.export_end) n)) _ one b.1 in
+    let d = past (ltb n 1) _ few c.1 in
+    let f = past (ltb 128 n) _ room_for d.1 in
+    let g = past (ltb room n) _ Accepted f.1 in (
       record {
         second = eqb-true (length R.import_end) (buses R) (not-false _ a.0);
         third = eqb-true (length R.export_start) (buses R) (not-false _ b.0);
@@ -108,8 +106,16 @@ unfolding too_far
 small_at R i e = small (others R i) (imported R i) (exported R i) e
 
 summed_at : (t : Bool) (u v x y : ℕ) → Sums x y ≡ cond t TooFar (Sums u v) → (t ≡ false) × (x ≡ u) × (y ≡ v)
-summed_at true u v x y e = let z : ◌≡◌ {A = ℕ} 0 1 = cc in absurd (omega arith)
-summed_at false u v x y e = (refl, (cc), (cc))
+summed_at true u v x y e = absurd (cc)
+summed_at false u v x y e = (refl, ap took_by e, ap gave_by e)
+  where
+    took_by : Option Passed → ℕ
+    took_by None = 0
+    took_by (Some p) = p.imported
+
+    gave_by : Option Passed → ℕ
+    gave_by None = 0
+    gave_by (Some p) = p.exported
 
 pub summed : (R : Registers) (x y : ℕ) → Sums x y ≡ totals_of R → Summed R x y
 unfolding totals_of
@@ -126,7 +132,7 @@ summed R x y e =
 
 too_far_at : (t : Bool) (u v : ℕ) → TooFar ≡ cond t TooFar (Sums u v) → t ≡ true
 too_far_at true u v e = refl
-too_far_at false u v e = let z : ◌≡◌ {A = ℕ} 0 1 = cc in absurd (omega arith)
+too_far_at false u v e = absurd (cc)
 
 too_far_lem : (R : Registers) → TooFar ≡ totals_of R → some (buses R) (too_far R) ≡ true
 unfolding totals_of
@@ -134,34 +140,34 @@ too_far_lem R e = too_far_at (some (buses R) (too_far R)) (took R) (gave R) e
 
 module _ (R : Registers) (out : List ℤ) where
   -- A call that is not accepted leaves the output as it was.
-  refused_with : (o : Outcome) → answer_to R (length out) ≡ o → (o ≡ Accepted → ⊥) → Metered R out out (bare o)
+  refused_with : (o : Answer) → answer_to R (length out) ≡ o → (o ≡ Accepted → ⊥) → Metered R out out (o)
   refused_with o e h = record { answer = meter_said R (length out) (rw e refl); output = rw e (sym (leaves o out _ h)) }
 
-  pub by_shape : (o : Outcome) → o ≡ shape R (length out) → (o ≡ Accepted → ⊥) → Metered R out out (bare o)
+  pub by_shape : (o : Answer) → o ≡ shape R (length out) → (o ≡ Accepted → ⊥) → Metered R out out (o)
   unfolding answer_to
   by_shape o e h = refused_with o (rw (← e) (stands o _ h)) h
 
-  pub by_supply : shape R (length out) ≡ Accepted → buses R ≤ R.supply → Metered R out out (refused 14)
+  pub by_supply : shape R (length out) ≡ Accepted → buses R ≤ R.supply → Metered R out out (refused NoSuchSupply)
   unfolding answer_to
-  by_supply s h = refused_with _ (rw (s, le-leb (buses R) R.supply h) refl) (refusal_stands 14)
+  by_supply s h = refused_with _ (rw (s, le-leb (buses R) R.supply h) refl) (refusal_stands NoSuchSupply)
 
-  pub by_advance : shape R (length out) ≡ Accepted → R.supply < buses R → TooFar ≡ totals_of R → Metered R out out (refused 15)
+  pub by_advance : shape R (length out) ≡ Accepted → R.supply < buses R → TooFar ≡ totals_of R → Metered R out out (refused AdvanceTooFar)
   unfolding answer_to
-  by_advance s h e = refused_with _ (rw (s, lt-leb (buses R) R.supply h, too_far_lem R e) refl) (refusal_stands 15)
+  by_advance s h e = refused_with _ (rw (s, lt-leb (buses R) R.supply h, too_far_lem R e) refl) (refusal_stands AdvanceTooFar)
 
   pub by_range :
-      {x y : ℕ} → shape R (length out) ≡ Accepted → R.supply < buses R → Sums x y ≡ totals_of R → (y + 1000000 < x) ⊎ (x + 1000000 < y) → Metered R out out (refused 16)
+      {x y : ℕ} → shape R (length out) ≡ Accepted → R.supply < buses R → Sums x y ≡ totals_of R → 1000000 < (x - y) + (y - x) → Metered R out out (refused SupplyOutside)
   unfolding answer_to
   by_range {x} {y} s h e g =
       let w = summed R x y e in
-      refused_with _ (rw (s, lt-leb (buses R) R.supply h, w.near, supplied_is R, ← w.took_is, ← w.gave_is, outside x y g) refl) (refusal_stands 16)
+      refused_with _ (rw (s, lt-leb (buses R) R.supply h, w.near, supplied_is R, ← w.took_is, ← w.gave_is, outside x y g) refl) (refusal_stands SupplyOutside)
 
   pub by_injections :
-      {x y : ℕ} {own : ℤ} {out' : List ℤ} → shape R (length out) ≡ Accepted → R.supply < buses R → Sums x y ≡ totals_of R → x ≤ y + 1000000 → y ≤ x + 1000000
-      → own ≡ pos x -ℤ pos y → out' ≡ headed (buses R) (with_supply R own) out → Metered R out out' accepted
+      {x y : ℕ} {own : ℤ} {out' : List ℤ} → shape R (length out) ≡ Accepted → R.supply < buses R → Sums x y ≡ totals_of R → (x - y) + (y - x) ≤ 1000000
+      → own ≡ pos x -ℤ pos y → out' ≡ headed (buses R) (with_supply R own) out → Metered R out out' Accepted
   unfolding answer_to
-  by_injections {x} {y} {own} {out'} s h e g k o f =
+  by_injections {x} {y} {own} {out'} s h e g o f =
       let w = summed R x y e in
-      let is : answer_to R (length out) ≡ Accepted = rw (s, lt-leb (buses R) R.supply h, w.near, supplied_is R, ← w.took_is, ← w.gave_is, inside x y g k) refl in
+      let is : answer_to R (length out) ≡ Accepted = rw (s, lt-leb (buses R) R.supply h, w.near, supplied_is R, ← w.took_is, ← w.gave_is, inside x y g) refl in
       let own_is : own ≡ supplied R = rw (supplied_is R, ← w.took_is, ← w.gave_is) o in
       record { answer = meter_said R (length out) (rw is refl); output = rw is (rw own_is at f) }

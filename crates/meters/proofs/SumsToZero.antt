@@ -11,9 +11,8 @@ use lib.Dec.{eqb, ltb, leb}
 use lib.IntN.{ℤ, pos, negsuc, nat_abs}
 use Rattle.rows.specs.Row.{some, up_to}
 use Rattle.rows.specs.Sum.{all, pick, over, sum}
-use Rattle.answer.specs.Answer.{accepted, refused, refuse_if}
-use Rattle.answer.specs.declared.Outcome.TheVariants.{Accepted}
-use Rattle.answer.specs.declared.Answer.{Answer}
+use Rattle.answer.specs.declared.Refusal.TheVariants.{NoSuchSupply, AdvanceTooFar, SupplyOutside}
+use Rattle.answer.specs.Answer.{Answer, Accepted, refuse_if, refused}
 use Rattle.rows.proofs.Row.{no_some}
 use Rattle.answer.proofs.Said.{said_same}
 use Rattle.answer.proofs.Refusals.{past, past_both}
@@ -92,12 +91,12 @@ pub record Accepts (R : Registers) : Type 0 where
 pub passed : (R : Registers) (room : ℕ) → answer_to R room ≡ Accepted → Accepts R
 unfolding answer_to
 passed R room e =
-    let range = refuse_if (ltb 1000000 (nat_abs (supplied R))) 16 Accepted in
-    let far = refuse_if (some (buses R) (too_far R)) 15 range in
-    let a = past_both (shape R room) (refuse_if (leb (buses R) R.supply) 14 far) e in
-    let b = past (leb (buses R) R.supply) 14 far a.1 in
-    let c = past (some (buses R) (too_far R)) 15 range b.1 in
-    let d = past (ltb 1000000 (nat_abs (supplied R))) 16 Accepted c.1 in
+    let range = refuse_if (ltb 1000000 (nat_abs (supplied R))) SupplyOutside Accepted in
+    let far = refuse_if (some (buses R) (too_far R)) AdvanceTooFar range in
+    let a = past_both (shape R room) (refuse_if (leb (buses R) R.supply) NoSuchSupply far) e in
+    let b = past (leb (buses R) R.supply) _ far a.1 in
+    let c = past (some (buses R) (too_far R)) _ range b.1 in
+    let d = past (ltb 1000000 (nat_abs (supplied R))) _ Accepted c.1 in
     record { supply_in = leb-false (buses R) R.supply b.0; near = c.0; within = ltb-false 1000000 (nat_abs (supplied R)) d.0 }
 
 -- Every injection of an accepted call lies within -1,000,000 and 1,000,000.
@@ -116,7 +115,7 @@ in_range R room e i l =
 pub rolled_over :
     {out : List ℤ} {r : Answer}
     → Metered (registers (0 ∷ 0 ∷ []) (0 ∷ 0 ∷ []) (0 ∷ 4294967290 ∷ []) (0 ∷ 10 ∷ []) 0) (pos 7 ∷ pos 7 ∷ pos 7 ∷ []) out r
-    → (r ≡ accepted) × (out ≡ negsuc 15 ∷ pos 16 ∷ pos 7 ∷ [])
+    → (r ≡ Accepted) × (out ≡ negsuc 15 ∷ pos 16 ∷ pos 7 ∷ [])
 unfolding answer_to some too_far sum up_to
 rolled_over m = (meter_answer _ m, m.output)
 
@@ -124,6 +123,6 @@ rolled_over m = (meter_answer _ m, m.output)
 pub went_back :
     {out : List ℤ} {r : Answer}
     → Metered (registers (0 ∷ 10 ∷ []) (0 ∷ 9 ∷ []) (0 ∷ 0 ∷ []) (0 ∷ 0 ∷ []) 0) (pos 7 ∷ pos 7 ∷ []) out r
-    → (r ≡ refused 15) × (out ≡ pos 7 ∷ pos 7 ∷ [])
+    → (r ≡ refused AdvanceTooFar) × (out ≡ pos 7 ∷ pos 7 ∷ [])
 unfolding answer_to some too_far sum
 went_back m = (meter_answer _ m, m.output)

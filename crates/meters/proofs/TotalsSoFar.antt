@@ -10,8 +10,7 @@ use Rattle.rows.specs.Row.{some}
 use Rattle.rows.specs.Sum.{over, pick}
 use Rattle.rows.proofs.Row.{some_none, some_more, some_at, or_true, and_false}
 use Rattle.meters.specs.Registers.{Registers, buses, imported, exported, others, too_far}
-use Rattle.meters.specs.Inside.{Even, totals_of}
-use Rattle.meters.specs.declared.Totals.TheVariants.{Sums, TooFar}
+use Rattle.meters.specs.Inside.{Even, totals_of, Sums, TooFar}
 
 pub record Adding (R : Registers) (i took gave : ℕ) : Type 0 where
   pub even : Even R

@@ -1,8 +1,7 @@
 -- What `injections` promises.
 use Rattle.std.specs.Prelude.{◌≡◌, List, [], ◌∷◌, ℕ, ℤ, length}
 use Rattle.rows.specs.Row.{headed}
-use Rattle.answer.specs.Answer.{SaidBy, settled}
-use Rattle.answer.specs.declared.Answer.{Answer}
+use Rattle.answer.specs.Answer.{Answer, SaidBy, settled}
 use Rattle.meters.specs.Registers.{Registers, buses, injection, answer_to}
 
 abbrev pub meter_numbers : List ℕ

@@ -2,9 +2,8 @@
 use Rattle.std.specs.Prelude.{Bool, cond, not, ◌&&◌, ◌||◌, List, ℕ, eqb, ltb, leb, ℤ, pos, neg_ℤ, nat_abs, ◌-ℤ◌, length}
 use Rattle.rows.specs.Row.{nth, some}
 use Rattle.rows.specs.Sum.{Group, sum}
-use Rattle.answer.specs.Answer.{refuse_if, and_then}
-use Rattle.answer.specs.declared.Outcome.{Outcome}
-use Rattle.answer.specs.declared.Outcome.TheVariants.{Accepted}
+use Rattle.answer.specs.declared.Refusal.TheVariants.{ListsUneven, NoSuchSupply, AdvanceTooFar, SupplyOutside}
+use Rattle.answer.specs.Answer.{Answer, Accepted, and_then, refuse_if}
 use Rattle.quantity.specs.Register.{advance}
 
 -- Readings at the start and the end of the quarter hour, one a bus, and the number of the supply bus.
@@ -44,28 +43,28 @@ abbrev pub injection : Registers → ℕ → ℤ
 injection R i = cond (others R i) (metered R i) (supplied R)
 
 -- 13: lists unequal, empty or above 128, or output shorter.
-abbrev pub shape_of : ℕ → ℕ → ℕ → ℕ → ℕ → Outcome
+abbrev pub shape_of : ℕ → ℕ → ℕ → ℕ → ℕ → Answer
 shape_of n second third fourth room =
-    refuse_if (not (eqb second n)) 13
-    (refuse_if (not (eqb third n)) 13
-    (refuse_if (not (eqb fourth n)) 13
-    (refuse_if (ltb n 1) 13
-    (refuse_if (ltb 128 n) 13
-    (refuse_if (ltb room n) 13
+    refuse_if (not (eqb second n)) ListsUneven
+    (refuse_if (not (eqb third n)) ListsUneven
+    (refuse_if (not (eqb fourth n)) ListsUneven
+    (refuse_if (ltb n 1) ListsUneven
+    (refuse_if (ltb 128 n) ListsUneven
+    (refuse_if (ltb room n) ListsUneven
     Accepted)))))
 
 -- 15: an advance above 1,000,000 at a bus other than the supply.
 unfoldable pub too_far : Registers → ℕ → Bool
 too_far R i = others R i && (ltb 1000000 (imported R i) || ltb 1000000 (exported R i))
 
-abbrev pub shape : Registers → ℕ → Outcome
+abbrev pub shape : Registers → ℕ → Answer
 shape R room = shape_of (buses R) (length R.import_end) (length R.export_start) (length R.export_end) room
 
 -- 13 to 16 in their order, room being the length of the lent output.
-unfoldable pub answer_to : Registers → ℕ → Outcome
+unfoldable pub answer_to : Registers → ℕ → Answer
 answer_to R room =
     and_then (shape R room)
-    (refuse_if (leb (buses R) R.supply) 14
-    (refuse_if (some (buses R) (too_far R)) 15
-    (refuse_if (ltb 1000000 (nat_abs (supplied R))) 16
+    (refuse_if (leb (buses R) R.supply) NoSuchSupply
+    (refuse_if (some (buses R) (too_far R)) AdvanceTooFar
+    (refuse_if (ltb 1000000 (nat_abs (supplied R))) SupplyOutside
     Accepted)))

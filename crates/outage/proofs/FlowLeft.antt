@@ -8,6 +8,7 @@ use native.Mathlib.Decide.{ℕ_discrete}
 use lib.IntN.{ℤ, pos, ◌-ℤ◌}
 use lib.ListN.{length, set, take, drop}
 use lib.Seq.{get_or-set_same, get_or-set_other}
+use Rattle.std.specs.Prelude.{Option, None, Some}
 use Rattle.rows.specs.Row.{nth, headed}
 use Rattle.rows.proofs.Row.{headed_at}
 use Rattle.answer.specs.Answer.{overloaded}
@@ -23,8 +24,7 @@ use Rattle.search.specs.declared.Latent.{Latent}
 use Rattle.reroute.specs.InsideMoves.{network, carried}
 use Rattle.reroute.specs.InsideVerdicts.{Carrying, Shortage, Says}
 use Rattle.reroute.specs.declared.Judgement.{Judgement}
-use Rattle.reroute.specs.declared.Verdict.{Verdict}
-use Rattle.reroute.specs.declared.Verdict.TheVariants.{Carries, Short}
+use Rattle.reroute.specs.declared.Shortfall.{Shortfall}
 use Rattle.replace.specs.Inside as replace
 use Rattle.replace.specs.Inside.{Replaced}
 use Rattle.verdict.specs.Case.{Case, out, on, Fits}
@@ -49,23 +49,24 @@ module _ (C : Case) (level : Level C) (flow : List ℤ) (W : Wires) (served : Li
   abbrev limits_out : List ℕ
   limits_out = set live k 0
 
-  word : (v : Verdict) → r.verdict ≡ v → Says (loss_net C k) (carried (loss_net C k).limit r.latent.ahead) (has r.group) v
-  word v e = subst (λ (w : Verdict). Says (loss_net C k) (carried (loss_net C k).limit r.latent.ahead) (has r.group) w) e (says C (on flow) W served live lat s k r p.lost)
+  word : (o : Option Shortfall) → r.short ≡ o → Says (loss_net C k) (carried (loss_net C k).limit r.latent.ahead) o
+  word o e = subst (λ (x : Option Shortfall). Says (loss_net C k) (carried (loss_net C k).limit r.latent.ahead) x) e (says C (on flow) W served live lat s k r p.lost)
 
   -- Short: the case without k is overloaded by as much, round the same group.
-  pub overload_out : (e : ℕ) → r.verdict ≡ Short e → length r.group ≡ 16 → OverloadSaid (out C k) (overloaded e r.group)
-  overload_out e v l =
-      let c : Shortage (loss_net C k) (has r.group) e = word (Short e) v in
+  pub overload_out : (x : Shortfall) → r.short ≡ Some x → OverloadSaid (out C k) (overloaded x.excess x.group)
+  overload_out x v =
+      let c : Shortage (loss_net C k) (has x.group) x.excess = word (Some x) v in
+      let g = p.lost.grouped x v in
       record {
-        shortage = e;
-        group = r.group;
-        answer = said_overloaded e r.group;
-        long = l;
-        bytes = group_bytes_lem r.group l p.lost.bytes;
-        overload = (overload_plain (out C k) e (has r.group)).1 (record {
+        shortage = x.excess;
+        group = x.group;
+        answer = said_overloaded x.excess x.group;
+        long = g.long;
+        bytes = group_bytes_lem x.group g.long g.bytes;
+        overload = (overload_plain (out C k) x.excess (has x.group)).1 (record {
           above = c.some;
-          smallest = (level_smallest C k level (has r.group) e).0 c.smallest;
-          beyond = clipped C.buses r.group l (λ i u. p.lost.beyond i (rw s.held.buses_are u));
+          smallest = (level_smallest C k level (has x.group) x.excess).0 c.smallest;
+          beyond = clipped C.buses x.group g.long (λ i u. g.beyond i (rw s.held.buses_are u));
         });
       }
 
@@ -111,9 +112,9 @@ module _ (C : Case) (level : Level C) (flow : List ℤ) (W : Wires) (served : Li
       parts j u = omega (arith, minus_parts (pos (nth limits_out j)) (pos (nth r.latent.ahead j)), ap pos_part (at j u), ap neg_part (at j u))
 
       -- Carries: the flow that is left fits the case without k.
-      pub state_out : r.verdict ≡ Carries → State (out C k) (on flow') W (set served k false) limits_out r.latent
+      pub state_out : r.short ≡ None → State (out C k) (on flow') W (set served k false) limits_out r.latent
       state_out v =
-          let c : Carrying (loss_net C k) (carried (loss_net C k).limit r.latent.ahead) = word Carries v in
+          let c : Carrying (loss_net C k) (carried (loss_net C k).limit r.latent.ahead) = word None v in
           let same_limit : (j : ℕ) → (loss_net C k).limit j ≡ nth limits_out j =
           λ j. ap (λ (N : Net). N.limit j) (net_out C k C.loss_limit) ∙ sym (limits_at j) in
           let same : SameFlow (loss_net C k) (carried (loss_net C k).limit r.latent.ahead) (flow_of (on flow')) = λ j u. omega (arith, parts j u, same_limit j) in

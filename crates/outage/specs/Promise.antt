@@ -1,10 +1,8 @@
 -- What `take_out` promises.
+use Rattle.answer.specs.declared.Refusal.TheVariants.{AlreadyOut}
 use Rattle.std.specs.Prelude.{◌≡◌, Bool, true, false, List, ◌∷◌, ℕ, ◌<◌, ℤ, pos, length}
 use Rattle.rows.specs.Sum.{size}
-use Rattle.answer.specs.Answer.{accepted}
-use Rattle.answer.specs.declared.Outcome.{Outcome}
-use Rattle.answer.specs.declared.Outcome.TheVariants.{Accepted}
-use Rattle.answer.specs.declared.Answer.{Answer}
+use Rattle.answer.specs.Answer.{Answer, Accepted}
 use Rattle.bits.specs.Field.{set_bit}
 use Rattle.layout.specs.Layout.{status_bit}
 use Rattle.layout.specs.Check.{check_of}
@@ -26,8 +24,8 @@ abbrev pub Confined : Case → (ℕ → ℤ) → List ℕ → ℕ → (ℕ → �
 Confined C f rec b g = (j : ℕ) → j < C.branches → (j ≡ b → ⊥) → names rec j ≡ false → g j ≡ f j
 
 -- Refusals 21 and 1 to 8, then 9, then 10: already out.
-abbrev pub take_check : ℕ → List ℕ → ℕ → ℕ → ℕ → Outcome
-take_check percent bs flows bytes b = branch_check percent bs flows bytes b 0 10
+abbrev pub take_check : ℕ → List ℕ → ℕ → ℕ → ℕ → Answer
+take_check percent bs flows bytes b = branch_check percent bs flows bytes b 0 AlreadyOut
 
 abbrev pub take_numbers : List ℕ
 take_numbers = 10 ∷ branch_numbers
@@ -60,6 +58,6 @@ pub record Judges (C : Case) (touched : ℕ → Type 0) (table : List ℕ) (n : 
 
 pub record TakeCounted (percent b : ℕ) (before after : Lent) (r : Taken) : Type 0 where
   pub ends : TakeEnds percent b before after r.answer
-  pub judges : r.answer ≡ accepted
+  pub judges : r.answer ≡ Accepted
       → Judges (out (case_in percent before.book) b) (Touched (on before.flow) (on after.flow) b) before.table r.judged
-  pub none : (r.answer ≡ accepted → ⊥) → r.judged ≡ 0
+  pub none : (r.answer ≡ Accepted → ⊥) → r.judged ≡ 0

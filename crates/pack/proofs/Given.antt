@@ -7,9 +7,8 @@ use lib.Dec.{ltb}
 use lib.IntN.{ℤ}
 use lib.ListN.{length}
 use Rattle.rows.specs.Row.{member}
-use Rattle.answer.specs.declared.Outcome.TheVariants.{Accepted}
-use Rattle.answer.specs.declared.Answer.{Answer}
-use Rattle.answer.specs.Answer.{SaidBy, bare}
+use Rattle.answer.specs.declared.Refusal.TheVariants.{CountsOutside, BusWrong, BranchWrong, NotBalanced, TooShort}
+use Rattle.answer.specs.Answer.{Answer, Accepted, SaidBy}
 use Rattle.answer.proofs.Numbers.{Gives, gives_if, gives_at, gives_said, said_is}
 use Rattle.layout.specs.declared.Form.{Form}
 use Rattle.layout.specs.Fault.{first_fault}
@@ -21,18 +20,18 @@ use Rattle.pack.specs.Write.{entry, entry_fault, row_fault, write_check, write_n
 pub write_gives : (form : Form) (n m factor : ℕ) (inj : List ℤ) (bra : List ℕ) (room : ℕ) → Gives write_numbers (write_check form n m factor inj bra room)
 unfolding write_check member
 write_gives form n m factor inj bra room =
-    gives_if write_numbers (outside n m factor) 2 _ refl
-    (gives_if write_numbers (ltb (length inj) n || ltb (length bra) (fields form * m)) 8 _ refl
-    (gives_at write_numbers (first_fault (entry_fault inj) n) 4 _ refl
-    (gives_at write_numbers (first_fault (row_fault form n bra) m) 5 _ refl
-    (gives_if write_numbers (not (balances n (entry inj))) 7 _ refl
-    (gives_if write_numbers (ltb room (bytes_for form n m)) 8 Accepted refl tt)))))
+    gives_if write_numbers (outside n m factor) CountsOutside _ refl
+    (gives_if write_numbers (ltb (length inj) n || ltb (length bra) (fields form * m)) TooShort _ refl
+    (gives_at write_numbers (first_fault (entry_fault inj) n) BusWrong _ (λ at. refl)
+    (gives_at write_numbers (first_fault (row_fault form n bra) m) BranchWrong _ (λ at. refl)
+    (gives_if write_numbers (not (balances n (entry inj))) NotBalanced _ refl
+    (gives_if write_numbers (ltb room (bytes_for form n m)) TooShort Accepted refl tt)))))
 
 module _ (form : Form) (n m factor : ℕ) (inj : List ℤ) (bra : List ℕ) where
-  pub write_said : (room : ℕ) {r : Answer} → r ≡ bare (write_check form n m factor inj bra room) → SaidBy (write_check form n m factor inj bra room) r
+  pub write_said : (room : ℕ) {r : Answer} → r ≡ (write_check form n m factor inj bra room) → SaidBy (write_check form n m factor inj bra room) r
   unfolding member
-  write_said room = gives_said write_numbers (write_check form n m factor inj bra room) refl refl (write_gives form n m factor inj bra room)
+  write_said room = gives_said write_numbers (write_check form n m factor inj bra room) refl (write_gives form n m factor inj bra room)
 
-  pub write_answer : {out out' : List ℕ} {r : Answer} → BookWritten form n m factor inj bra out out' r → r ≡ bare (write_check form n m factor inj bra (length out))
+  pub write_answer : {out out' : List ℕ} {r : Answer} → BookWritten form n m factor inj bra out out' r → r ≡ (write_check form n m factor inj bra (length out))
   unfolding member
-  write_answer {out} d = said_is write_numbers _ refl refl (write_gives form n m factor inj bra (length out)) d.answer
+  write_answer {out} d = said_is write_numbers _ refl (write_gives form n m factor inj bra (length out)) d.answer

@@ -4,19 +4,14 @@ use mathlib.Core.Bool.{true, false, not, ◌||◌}
 use mathlib.Core.List.{List, [], ◌∷◌, ◌++◌}
 use Prim.Native.Nat.{ℕ, ◌*◌, ◌<◌, ◌≤◌}
 use native.Mathlib.Omega.{arith}
-use borrow.Author.Tests.{lt-ltb, le-ltb, ltb-false, not-false}
+use borrow.Author.Tests.{le-ltb, ltb-false, not-false}
 use lib.Dec.{ltb}
 use lib.IntN.{ℤ, pos}
 use lib.ListN.{length, drop, replicate}
-use Rattle.answer.specs.declared.Outcome.{Outcome}
-use Rattle.answer.specs.declared.Outcome.TheVariants.{Accepted}
-use Rattle.answer.specs.declared.Answer.{Answer}
-use Rattle.answer.specs.Answer.{bare, refusal, refusal_at}
+use Rattle.answer.specs.Answer.{Answer, Accepted, Nowhere}
 use Rattle.rows.proofs.Row.{either_false, length_up_to, get_d_up_to}
 use Rattle.answer.proofs.Refusals.{past, past_at}
 use Rattle.bits.specs.Fields.{puts, put_items}
-use Rattle.answer.specs.declared.Place.{Place}
-use Rattle.answer.specs.declared.Place.TheVariants.{Nowhere, At}
 use Rattle.layout.specs.declared.Form.{Form}
 use Rattle.layout.specs.Book.{Book, buses, count, injection, branch, no_branch}
 use Rattle.layout.specs.Fault.{first_fault}
@@ -41,56 +36,24 @@ pub record Writable (form : Form) (n m factor : ℕ) (inj : List ℤ) (bra : Lis
   pub fits : bytes_for form n m ≤ room
 
 module _ (form : Form) (n m factor : ℕ) (inj : List ℤ) (bra : List ℕ) (room : ℕ) where
-  abbrev check : Outcome
+  abbrev check : Answer
   check = write_check form n m factor inj bra room
 
-  pub write_outside : outside n m factor ≡ true → refusal 2 ≡ check
+  write_good_lem : outside n m factor ≡ false → n ≤ length inj → fields form * m ≤ length bra → first_fault (entry_fault inj) n ≡ Nowhere
+      → first_fault (row_fault form n bra) m ≡ Nowhere → balances n (entry inj) ≡ true → bytes_for form n m ≤ room → check ≡ Accepted
   unfolding write_check
-  write_outside o = sym (rw o refl)
-
-  pub write_few_injections : outside n m factor ≡ false → length inj < n → refusal 8 ≡ check
-  unfolding write_check
-  write_few_injections o l = sym (rw (o, lt-ltb (length inj) n l) refl)
-
-  module _ (o : outside n m factor ≡ false) (u : n ≤ length inj) where
-    pub write_few_branches : length bra < fields form * m → refusal 8 ≡ check
-    unfolding write_check
-    write_few_branches l = sym (rw (o, le-ltb (length inj) n u, lt-ltb (length bra) (fields form * m) l) refl)
-
-    module _ (v : fields form * m ≤ length bra) where
-      pub write_entry : {w : Place} {i j : ℕ} → w ≡ first_fault (entry_fault inj) n → w ≡ At i j → refusal_at 4 w ≡ check
-      unfolding write_check
-      write_entry h e = rw e (sym (rw (o, le-ltb (length inj) n u, le-ltb (length bra) (fields form * m) v, sym h ∙ e) refl))
-
-      module _ (e : first_fault (entry_fault inj) n ≡ Nowhere) where
-        pub write_row : {w : Place} {i j : ℕ} → w ≡ first_fault (row_fault form n bra) m → w ≡ At i j → refusal_at 5 w ≡ check
-        unfolding write_check
-        write_row h f = rw f (sym (rw (o, le-ltb (length inj) n u, le-ltb (length bra) (fields form * m) v, e, sym h ∙ f) refl))
-
-        module _ (f : first_fault (row_fault form n bra) m ≡ Nowhere) where
-          pub write_sum : balances n (entry inj) ≡ false → refusal 7 ≡ check
-          unfolding write_check
-          write_sum b = sym (rw (o, le-ltb (length inj) n u, le-ltb (length bra) (fields form * m) v, e, f, b) refl)
-
-          module _ (b : balances n (entry inj) ≡ true) (x : ℕ) (is : x ≡ bytes_for form n m) where
-            pub write_room : room < x → refusal 8 ≡ check
-            unfolding write_check
-            write_room l = let l' : room < bytes_for form n m = omega arith in sym (rw (o, le-ltb (length inj) n u, le-ltb (length bra) (fields form * m) v, e, f, b, lt-ltb room (bytes_for form n m) l') refl)
-
-            pub write_good_lem : x ≤ room → Accepted ≡ check
-            unfolding write_check
-            write_good_lem l = let l' : bytes_for form n m ≤ room = omega arith in sym (rw (o, le-ltb (length inj) n u, le-ltb (length bra) (fields form * m) v, e, f, b, le-ltb room (bytes_for form n m) l') refl)
+  write_good_lem o u v e f b l = rw (o, le-ltb (length inj) n u, le-ltb (length bra) (fields form * m) v, e, f, b, le-ltb room (bytes_for form n m) l) refl
 
   pub write_accepted : check ≡ Accepted → Writable form n m factor inj bra room
   unfolding write_check
   write_accepted a =
-      let p₁ = past (outside n m factor) 2 _ a in
-      let p₂ = past (ltb (length inj) n || ltb (length bra) (fields form * m)) 8 _ p₁.1 in
+      let p₁ = past (outside n m factor) _ _ a in
+      let p₂ = past (ltb (length inj) n || ltb (length bra) (fields form * m)) _ _ p₁.1 in
       let q = either_false (ltb (length inj) n) (ltb (length bra) (fields form * m)) p₂.0 in
-      let p₃ = past_at (first_fault (entry_fault inj) n) 4 _ p₂.1 in
-      let p₄ = past_at (first_fault (row_fault form n bra) m) 5 _ p₃.1 in
-      let p₅ = past (not (balances n (entry inj))) 7 _ p₄.1 in
-      let p₆ = past (ltb room (bytes_for form n m)) 8 _ p₅.1 in
+      let p₃ = past_at (first_fault (entry_fault inj) n) _ _ p₂.1 in
+      let p₄ = past_at (first_fault (row_fault form n bra) m) _ _ p₃.1 in
+      let p₅ = past (not (balances n (entry inj))) _ _ p₄.1 in
+      let p₆ = past (ltb room (bytes_for form n m)) _ _ p₅.1 in
       record {
         range = in_range n m factor p₁.0;
         injections_long = ltb-false (length inj) n q.0;
@@ -102,7 +65,7 @@ module _ (form : Form) (n m factor : ℕ) (inj : List ℤ) (bra : List ℕ) (roo
       }
 
   pub accepted_write : Writable form n m factor inj bra room → check ≡ Accepted
-  accepted_write w = sym (write_good_lem (range_in n m factor w.range) w.injections_long w.branches_long w.entries w.rows w.level (bytes_for form n m) refl w.fits)
+  accepted_write w = write_good_lem (range_in n m factor w.range) w.injections_long w.branches_long w.entries w.rows w.level w.fits
 
 -- ---- the book of the tables
 
@@ -151,9 +114,9 @@ module _ (form : Form) (n m factor : ℕ) (inj : List ℤ) (bra : List ℕ) wher
 
 -- ---- the ways in which writing a book ends
 
-module _ (form : Form) (n m factor : ℕ) (inj : List ℤ) (bra out : List ℕ) (o : Outcome) (is : o ≡ write_check form n m factor inj bra (length out)) where
-  pub write_refused : (r : Answer) → (o ≡ Accepted → ⊥) → r ≡ bare o → BookWritten form n m factor inj bra out out r
-  write_refused r a q = record { answer = write_said form n m factor inj bra (length out) (q ∙ ap bare is); left = sym (rw (← is) (leaves o out _ a)) }
+module _ (form : Form) (n m factor : ℕ) (inj : List ℤ) (bra out : List ℕ) (o : Answer) (is : o ≡ write_check form n m factor inj bra (length out)) where
+  pub write_refused : (r : Answer) → (o ≡ Accepted → ⊥) → r ≡ o → BookWritten form n m factor inj bra out out r
+  write_refused r a q = record { answer = write_said form n m factor inj bra (length out) (q ∙ is); left = sym (rw (← is) (leaves o out _ a)) }
 
   module _ (a : o ≡ Accepted) where
     pub writable : Writable form n m factor inj bra (length out)
@@ -171,6 +134,6 @@ module _ (form : Form) (n m factor : ℕ) (inj : List ℤ) (bra out : List ℕ) 
       fits = omega arith;
     })
 
-    pub write_done : (end : ℕ) (new : List ℕ) (r : Answer) → end ≡ bytes_for form n m → new ≡ encode (book_from form n m factor inj bra) → r ≡ bare o
+    pub write_done : (end : ℕ) (new : List ℕ) (r : Answer) → end ≡ bytes_for form n m → new ≡ encode (book_from form n m factor inj bra) → r ≡ o
         → BookWritten form n m factor inj bra out (new ++ drop end out) r
-    write_done end new r e q s = record { answer = write_said form n m factor inj bra (length out) (s ∙ ap bare is); left = rw (← is, a, e, q) refl }
+    write_done end new r e q s = record { answer = write_said form n m factor inj bra (length out) (s ∙ is); left = rw (← is, a, e, q) refl }

@@ -6,8 +6,7 @@ use native.Mathlib.Omega.{arith}
 use borrow.Author.Tests.{eqb-true}
 use lib.IntN.{ℤ}
 use lib.ListN.{length, drop}
-use Rattle.answer.specs.declared.Outcome.TheVariants.{Accepted}
-use Rattle.answer.specs.declared.Answer.{Answer}
+use Rattle.answer.specs.Answer.{Answer, Accepted}
 use Rattle.answer.proofs.Refusals.{leaves}
 use Rattle.answer.proofs.Said.{said_same}
 use Rattle.rows.specs.Row.{nth}
@@ -33,7 +32,7 @@ pub record SameWritten (r r' : Answer) (o o' : List ℕ) : Type 0 where
 pub written_once : (form : Form) (n m factor : ℕ) (inj : List ℤ) (bra out o o' : List ℕ) (r r' : Answer) → BookWritten form n m factor inj bra out o r → BookWritten form n m factor inj bra out o' r' → SameWritten r r' o o'
 written_once form n m factor inj bra out o o' r r' p q = record { answers = said_same p.answer q.answer; bytes = p.left ∙ sym q.left }
 
-pub written_kept : (form : Form) (n m factor : ℕ) (inj : List ℤ) (bra out o : List ℕ) (r : Answer) → BookWritten form n m factor inj bra out o r → (r.outcome ≡ Accepted → ⊥) → o ≡ out
+pub written_kept : (form : Form) (n m factor : ℕ) (inj : List ℤ) (bra out o : List ℕ) (r : Answer) → BookWritten form n m factor inj bra out o r → (r ≡ Accepted → ⊥) → o ≡ out
 written_kept form n m factor inj bra out o r d a =
     let c = write_check form n m factor inj bra (length out) in
     d.left ∙ leaves c out (encode (book_from form n m factor inj bra) ++ drop (bytes_for form n m) out) (rw (write_answer form n m factor inj bra d) at a)

@@ -7,10 +7,7 @@ use lib.Dec.{ltb}
 use lib.IntN.{ℤ}
 use lib.ListN.{length}
 use Rattle.rows.specs.Row.{nth}
-use Rattle.answer.specs.declared.Place.TheVariants.{At}
-use Rattle.answer.specs.declared.Outcome.{Outcome}
-use Rattle.answer.specs.declared.Outcome.TheVariants.{Accepted}
-use Rattle.answer.specs.Answer.{number_of, place_of}
+use Rattle.answer.specs.Answer.{Answer, Accepted, At, number_of, place_of}
 use Rattle.answer.proofs.Refusals.{if_nowhere, placed_past}
 use Rattle.layout.specs.declared.Form.{Form}
 use Rattle.layout.specs.Form.{fields}
@@ -24,8 +21,8 @@ pub write_wrong : (f : Form) (n m factor : ℕ) (inj : List ℤ) (bra : List ℕ
     → WrongTables f n m inj bra (number_of (write_check f n m factor inj bra room)) i j
 unfolding write_check
 write_wrong f n m factor inj bra room {i} {j} e =
-    let p = placed_past (outside n m factor) 2 _ e in
-    let q = placed_past (ltb (length inj) n || ltb (length bra) (fields f * m)) 8 _ (ap place_of (sym p) ∙ e) in
-    subst (λ (o : Outcome). WrongTables f n m inj bra (number_of o) i j) (sym (p ∙ q))
+    let p = placed_past (outside n m factor) _ _ refl e in
+    let q = placed_past (ltb (length inj) n || ltb (length bra) (fields f * m)) _ _ refl (ap place_of (sym p) ∙ e) in
+    subst (λ (o : Answer). WrongTables f n m inj bra (number_of o) i j) (sym (p ∙ q))
     (wrong_of f n m (λ k. bus_values (entry inj k)) (λ k i. nth bra (fields f * k + i)) _
-    (if_nowhere (not (balances n (entry inj))) 7 _ (if_nowhere (ltb room (bytes_for f n m)) 8 Accepted refl)) (ap place_of (sym (p ∙ q)) ∙ e))
+    (if_nowhere (not (balances n (entry inj))) _ _ refl (if_nowhere (ltb room (bytes_for f n m)) _ Accepted refl refl)) (ap place_of (sym (p ∙ q)) ∙ e))

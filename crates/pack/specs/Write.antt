@@ -1,9 +1,7 @@
 -- What writing a packed book promises.
 use Rattle.std.specs.Prelude.{◌≡◌, not, ◌||◌, List, [], ◌∷◌, ◌++◌, ℕ, ◌+◌, ◌*◌, ltb, ℤ, pos, length, get_or, drop}
-use Rattle.answer.specs.declared.Outcome.{Outcome}
-use Rattle.answer.specs.declared.Outcome.TheVariants.{Accepted}
-use Rattle.answer.specs.declared.Answer.{Answer}
-use Rattle.answer.specs.Answer.{SaidBy, refuse_if, refuse_at, settled}
+use Rattle.answer.specs.declared.Refusal.TheVariants.{CountsOutside, BusWrong, BranchWrong, NotBalanced, TooShort}
+use Rattle.answer.specs.Answer.{Answer, Accepted, SaidBy, refuse_at, refuse_if, settled}
 use Rattle.rows.specs.Row.{nth, up_to}
 use Rattle.layout.specs.declared.Form.{Form}
 use Rattle.layout.specs.declared.Branch.{Branch}
@@ -41,14 +39,14 @@ abbrev pub WrongTables : Form → ℕ → ℕ → List ℤ → List ℕ → ℕ 
 WrongTables f n m injections branches number i j = Wrong f n m (λ k. bus_values (entry injections k)) (row_at f branches) number i j
 
 -- Refusals of the writer: 2, then 8 for its source tables, then 4, 5, 7, then 8 for its output; how long these must be is by the form asked for.
-unfoldable pub write_check : Form → ℕ → ℕ → ℕ → List ℤ → List ℕ → ℕ → Outcome
+unfoldable pub write_check : Form → ℕ → ℕ → ℕ → List ℤ → List ℕ → ℕ → Answer
 write_check f n m factor injections branches room =
-    refuse_if (outside n m factor) 2
-    (refuse_if (ltb (length injections) n || ltb (length branches) (fields f * m)) 8
-    (refuse_at (first_fault (entry_fault injections) n) 4
-    (refuse_at (first_fault (row_fault f n branches) m) 5
-    (refuse_if (not (balances n (entry injections))) 7
-    (refuse_if (ltb room (bytes_for f n m)) 8
+    refuse_if (outside n m factor) CountsOutside
+    (refuse_if (ltb (length injections) n || ltb (length branches) (fields f * m)) TooShort
+    (refuse_at (first_fault (entry_fault injections) n) BusWrong
+    (refuse_at (first_fault (row_fault f n branches) m) BranchWrong
+    (refuse_if (not (balances n (entry injections))) NotBalanced
+    (refuse_if (ltb room (bytes_for f n m)) TooShort
     Accepted)))))
 
 abbrev pub write_numbers : List ℕ

@@ -1,9 +1,8 @@
 // The packed book written: the tables beside it are checked, and packed.
 #![tactic(auto)]
 
-ghost use Rattle.std.specs.Prelude.{◌≡◌, ◌+◌, ◌*◌, ◌<◌, ◌≤◌, pos, ◌-ℤ◌, length, replicate};
-ghost use Rattle.answer.specs.declared.Place.TheVariants.{Nowhere};
-ghost use Rattle.answer.specs.declared.Outcome.TheVariants.{Accepted};
+ghost use Rattle.std.specs.Prelude.{◌≡◌, ◌+◌, ◌*◌, ◌<◌, ◌≤◌, pos, ◌-ℤ◌, length};
+ghost use Rattle.answer.specs.Answer.{Accepted, Nowhere};
 ghost use Rattle.bits.specs.Fields.{put_items};
 ghost use Rattle.layout.specs.Fault.{first_fault};
 ghost use Rattle.layout.specs.Form.{branch_widths, fields, branch_values};
@@ -12,8 +11,8 @@ ghost use Rattle.layout.specs.Inside.{bus_from};
 ghost use Rattle.layout.specs.Check.{balances};
 ghost use Rattle.pack.specs.Write.{entry, row_at, book_from, entry_fault, row_fault, write_check, BookWritten};
 
-use answer::{Answer, Outcome, Place};
-use layout::{Branch, Bus, Form, Head, Sums};
+use answer::{Answer, Place, Refusal};
+use layout::{Branch, Bus, Form, Head};
 use quantity::Kva;
 
 // A bus at which so much enters and so much leaves.
@@ -33,17 +32,11 @@ fn bus_of(x: i32) -> Bus
     net_bus(quantity::above(x), quantity::below(x))
 }
 
-fn first_entry_fault(injections: &[i32], buses: usize) -> Place
+fn first_entry_fault(injections: &[i32], buses: usize) -> Option<Place>
     requires { buses ≤ length injections.now }
     ensures { result ≡ first_fault (entry_fault injections.now) buses }
 {
-    for k in 0..buses {
-        let field = layout::bus_fault(bus_of(injections[k]));
-        if field != 0 {
-            return Place::At { item: k, field };
-        }
-    }
-    Place::Nowhere
+    layout::first_fault(buses, |k| layout::bus_fault(bus_of(injections[k])))
 }
 
 // Branch k of the table. The second kVA is the number before the status: in the old form that is the first.
@@ -53,28 +46,22 @@ fn row_at(branches: &[u32], form: Form, k: usize) -> Branch
 {
     let at = layout::numbers(form, k);
     let last = at + (layout::fields(form) - 1);
-    let kva = Kva(branches[at + 2]);
-    let kva2 = Kva(branches[last - 1]);
     Branch {
         first: branches[at],
         second: branches[at + 1],
-        kva,
-        kva2,
+        kva: Kva(branches[at + 2]),
+        kva2: Kva(branches[last - 1]),
         status: branches[last],
     }
 }
 
-fn first_row_fault(branches: &[u32], form: Form, buses: usize, count: usize) -> Place
+fn first_row_fault(branches: &[u32], form: Form, buses: usize, count: usize) -> Option<Place>
     requires { (count ≤ 256) × (fields form * count ≤ length branches.now) }
     ensures { result ≡ first_fault (row_fault form buses branches.now) count }
 {
-    for k in 0..count {
-        let field = layout::branch_fault(form, buses, row_at(branches, form, k));
-        if field != 0 {
-            return Place::At { item: k, field };
-        }
-    }
-    Place::Nowhere
+    layout::first_fault(count, |k| {
+        layout::branch_fault(form, buses, row_at(branches, form, k))
+    })
 }
 
 // What enters is what leaves, of injections without fault.
@@ -82,17 +69,17 @@ fn is_balanced(injections: &[i32], buses: usize) -> bool
     requires { (buses ≤ 128) × (buses ≤ length injections.now) × (first_fault (entry_fault injections.now) buses ≡ Nowhere) }
     ensures { result ≡ balances buses (entry injections.now) }
 {
-    let mut sums = Sums {
-        enters: 0,
-        leaves: 0,
-    };
-    for k in 0..buses {
-        sums = layout::count_in(sums, injections[k]);
-    }
-    sums.enters == sums.leaves
+    layout::is_balanced(
+        buses,
+        |k| -> i32
+            requires { k < length injections.now }
+            ensures { result ≡ entry injections.entry.now k }
+        { injections[k] },
+    )
 }
 
 // The writer's refusals, for so many bytes of output.
+#[tactic(auto, unfolding(crate::specs::Write::write_check))]
 fn check_tables(
     form: Form,
     buses: usize,
@@ -101,42 +88,28 @@ fn check_tables(
     injections: &[i32],
     branches: &[u32],
     room: usize,
-) -> Outcome
+) -> Answer
     ensures { result ≡ write_check form buses count factor injections.now branches.now room }
 {
     if layout::is_outside(buses, count, factor) {
-        return answer::refuse(2);
+        return Err(Refusal::CountsOutside);
     }
-    if injections.len() < buses {
-        return answer::refuse(8);
+    if injections.len() < buses || branches.len() < layout::numbers(form, count) {
+        return Err(Refusal::TooShort);
     }
-    if branches.len() < layout::numbers(form, count) {
-        return answer::refuse(8);
+    if let Some(place) = first_entry_fault(injections, buses) {
+        return Err(Refusal::BusWrong(place));
     }
-    let bus = first_entry_fault(injections, buses);
-    if let Place::At { item: _, field: _ } = bus {
-        return answer::refuse_at(4, bus);
-    }
-    let branch = first_row_fault(branches, form, buses, count);
-    if let Place::At { item: _, field: _ } = branch {
-        return answer::refuse_at(5, branch);
+    if let Some(place) = first_row_fault(branches, form, buses, count) {
+        return Err(Refusal::BranchWrong(place));
     }
     if !is_balanced(injections, buses) {
-        return answer::refuse(7);
+        return Err(Refusal::NotBalanced);
     }
     if room < layout::bytes_for(form, buses, count) {
-        return answer::refuse(8);
+        return Err(Refusal::TooShort);
     }
-    Outcome::Accepted
-}
-
-// Zeros, for fields to be put into.
-pub fn clear(out: &mut [u8])
-    ensures { out.new ≡ replicate (length out.old) 0 }
-{
-    for i in 0..out.len() {
-        out[i] = 0;
-    }
+    Ok(())
 }
 
 fn put_buses(out: &mut [u8], buses: usize, injections: &[i32])
@@ -170,7 +143,7 @@ fn pack_into(
     requires { (length out.old ≡ bytes_for form buses count) × (write_check form buses count factor injections.now branches.now (length out.old) ≡ Accepted) }
     ensures { out.new ≡ encode (book_from form buses count factor injections.now branches.now) }
 {
-    clear(out);
+    out.fill(0);
     let h = Head {
         form,
         buses,
@@ -195,10 +168,7 @@ pub fn write_book(
 ) -> Answer
     ensures { BookWritten form buses count factor injections.now branches.now out.old out.new result }
 {
-    let found = check_tables(form, buses, count, factor, injections, branches, out.len());
-    let Outcome::Accepted = found else {
-        return answer::answer_with(found);
-    };
+    check_tables(form, buses, count, factor, injections, branches, out.len())?;
     let end = layout::bytes_for(form, buses, count);
     pack_into(
         &mut out[..end],
@@ -209,5 +179,5 @@ pub fn write_book(
         injections,
         branches,
     );
-    answer::answer_with(found)
+    Ok(())
 }

@@ -1,8 +1,8 @@
 -- Laws of the two parts of a signed number, and of signed sums read as sums of naturals.
-use Rattle.std.proofs.Common.{◌≡◌, ℕ, zero, suc, ◌+◌, ◌-◌, ◌<◌, ◌≤◌, min, Bool, true, false, not, ltb, ◌↔◌, ℤ, pos, negsuc, ◌+ℤ◌, ◌-ℤ◌, neg_ℤ, nat_abs, ◌≤ℤ◌, sym, refl, ap, arith, le→leb, leb→le, ltb-false, ltb-true}
+use Rattle.std.proofs.Common.{◌≡◌, ℕ, zero, suc, ◌+◌, ◌-◌, ◌<◌, ◌≤◌, min, Bool, true, false, not, ltb, ◌↔◌, ℤ, pos, negsuc, ◌+ℤ◌, ◌-ℤ◌, neg_ℤ, nat_abs, ◌≤ℤ◌, refl, ap, arith, le→leb, leb→le, ltb-false, ltb-true}
 use lib.IntN.{sub_ℕ}
 use Rattle.rows.specs.Sum.{Group, pick, over, pick_ℤ, sum}
-use Rattle.quantity.specs.Signed.{pos_part, neg_part, is_neg, of_size}
+use Rattle.quantity.specs.Signed.{pos_part, neg_part, of_size}
 
 -- One of the two parts is 0, in a form that arithmetic reads.
 pub one_side : (z : ℤ) → min (pos_part z) (neg_part z) ≡ 0
@@ -59,13 +59,6 @@ minus x y z = (
   λ e. by_parts (x -ℤ y) z (omega (arith, minus_parts x y)),
 )
 
--- A difference of naturals, by the sign that it has.
-pub less_is : (a b : ℕ) → a < b → of_size true (b - a) ≡ pos a -ℤ pos b
-less_is a b h = sym ((minus (pos a) (pos b) (of_size true (b - a))).1 (omega (arith, neg_pos (pos (b - a)), neg_neg (pos (b - a)))))
-
-pub more_is : (a b : ℕ) → b ≤ a → of_size false (a - b) ≡ pos a -ℤ pos b
-more_is a b h = sym ((minus (pos a) (pos b) (pos (a - b))).1 (omega arith))
-
 pick_parts : (s : Bool) (x : ℤ) → (pos_part (pick_ℤ s x) ≡ pick s (pos_part x)) × (neg_part (pick_ℤ s x) ≡ pick s (neg_part x))
 pick_parts true x = (refl, refl)
 pick_parts false x = (refl, refl)
@@ -88,21 +81,7 @@ pub at_most : (x : ℤ) (v : ℕ) → (x ≤ℤ pos v) ↔ (pos_part x ≤ neg_p
 at_most (pos a) v = (λ e. omega (arith, leb→le a v e.le), λ e. record { le = le→leb a v (omega arith) })
 at_most (negsuc a) v = (λ e. omega arith, λ e. record { le = tt })
 
--- ---- A difference: its sign, only below 0; its size; and when it is at most n.
-pub less_sign : (a b : ℕ) → a < b → 1 ≡ pick (is_neg (pos a -ℤ pos b)) 1
-less_sign a b l = signed (pos a -ℤ pos b) (omega (arith, minus_parts (pos a) (pos b)))
-  where
-    signed : (z : ℤ) → 0 < neg_part z → 1 ≡ pick (is_neg z) 1
-    signed (pos n) h = absurd (omega arith)
-    signed (negsuc n) h = refl
-
-pub more_sign : (a b : ℕ) → b ≤ a → 0 ≡ pick (is_neg (pos a -ℤ pos b)) 1
-more_sign a b l = unsigned (pos a -ℤ pos b) (omega (arith, minus_parts (pos a) (pos b), one_side (pos a -ℤ pos b)))
-  where
-    unsigned : (z : ℤ) → neg_part z ≡ 0 → 0 ≡ pick (is_neg z) 1
-    unsigned (pos n) h = refl
-    unsigned (negsuc n) h = absurd (omega arith)
-
+-- ---- A difference: its size, and when it is at most n.
 pub size_apart : (a b : ℕ) → (a - b) + (b - a) ≡ pos_part (pos a -ℤ pos b) + neg_part (pos a -ℤ pos b)
 size_apart a b = omega (arith, minus_parts (pos a) (pos b), one_side (pos a -ℤ pos b))
 

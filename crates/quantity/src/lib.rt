@@ -20,32 +20,30 @@ pub fn limit(rating: Kva, factor: u32, percent: u32) -> Kw
     requires { (factor ≤ 1000) × (percent ≤ 100) }
     ensures { result.0 ≡ limit_of rating.0 factor percent }
 {
-    let kva = rating.0;
-    Kw((kva as u64 * factor as u64 * percent as u64 / 100000) as u32)
+    let product = u64::from(rating.0) * u64::from(factor) * u64::from(percent);
+    Kw((product / 100000) as u32)
 }
 
 // Whether a percentage is outside 50 to 100.
+#[tactic(auto, unfolding(crate::specs::Rating::percent_out))]
 pub fn percent_out(percent: u32) -> bool
     ensures { result ≡ percent_out percent }
 {
-    if percent < 50 {
-        return true;
-    }
-    100 < percent
+    !(50..=100).contains(&percent)
 }
 
 // What of x lies above 0.
 pub fn above(x: i32) -> u32
     ensures { result ≡ pos_part x }
 {
-    if x < 0 { 0 } else { x as u32 }
+    x.max(0).unsigned_abs()
 }
 
-// What of x lies below 0: the least number's size has no i32 of its own.
+// What of x lies below 0: the least number's size has no i32 of its own, but a u32.
 pub fn below(x: i32) -> u32
     ensures { result ≡ neg_part x }
 {
-    if x < 0 { (-1 - x) as u32 + 1 } else { 0 }
+    x.min(0).unsigned_abs()
 }
 
 // The number of a sign and a size.
@@ -53,11 +51,8 @@ pub fn signed(negative: bool, size: u32) -> i32
     requires { size ≤ 2147483647 }
     ensures { result ≡ of_size negative size }
 {
-    if negative {
-        0 - (size as i32)
-    } else {
-        size as i32
-    }
+    let x = size as i32;
+    if negative { -x } else { x }
 }
 
 // More less less, with its sign.
@@ -65,30 +60,26 @@ pub fn difference(more: u32, fewer: u32) -> i32
     requires { (more ≤ 2147483647) × (fewer ≤ 2147483647) }
     ensures { result ≡ pos more -ℤ pos fewer }
 {
-    if more < fewer {
-        signed(true, fewer - more)
-    } else {
-        signed(false, more - fewer)
-    }
+    more as i32 - fewer as i32
 }
 
 // 1 where more leaves than enters: a zero has no sign.
 pub fn sign_of(enters: u32, leaves: u32) -> u32
     ensures { result ≡ pick (is_neg (pos enters -ℤ pos leaves)) 1 }
 {
-    if enters < leaves { 1 } else { 0 }
+    u32::from(enters < leaves)
 }
 
 // How far two numbers are apart.
 pub fn apart(x: u32, y: u32) -> u32
     ensures { result ≡ (x - y) + (y - x) }
 {
-    if x < y { y - x } else { x - y }
+    x.abs_diff(y)
 }
 
 // How far a register went on from one reading to the next, carried past its top.
 pub fn advanced(start: u32, end: u32) -> u32
     ensures { result ≡ advance start end }
 {
-    std::num::wrapping_sub_u32(end, start)
+    end.wrapping_sub(start)
 }

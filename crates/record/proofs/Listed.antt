@@ -4,13 +4,17 @@ use mathlib.Core.Bool.{Bool, true, false, ◌&&◌, true≢false}
 use mathlib.Core.List.{List}
 use Prim.Native.Nat.{ℕ, zero, suc, ◌+◌, ◌-◌, ◌*◌, ◌/◌, ◌%◌, ◌<◌, ◌≤◌, min}
 use native.Mathlib.Omega.{arith}
-use borrow.Author.Tests.{eq-eqb, ne_eqb, eqb-true}
+use borrow.Author.Tests.{eq-eqb, eqb-true}
 use lib.Bits.{bit_and, and_step, and_lt}
-use lib.ListN.{take, drop}
-use lib.Seq.{get_or-take, get_or-drop}
+use lib.ListN.{length, take, drop, get_or, length-drop}
+use lib.Seq.{get_or-take, get_or-drop, length-take-le}
+use Rattle.std.proofs.lemmas.Slice.Zip.{length-zip, get_or-zip}
+use Rattle.std.specs.Bool.{MatchBool}
+use Rattle.std.specs.List.{AllWithin, HoldsAt, zip}
 use Rattle.rows.specs.Row.{nth, some}
 use Rattle.rows.specs.Bit.{bit_at, has}
 use Rattle.rows.proofs.Row.{some_none, some_more, no_some, both_true}
+use Rattle.bits.specs.Field.{Bytes}
 use Rattle.bits.proofs.Low.{low, low_lt, low_shift, low_zero, low_ext}
 use Rattle.verdict.specs.Record.{verdict_in, names}
 use Rattle.record.specs.Inside.{listed}
@@ -83,34 +87,20 @@ module _ (rec touched : List ℕ) where
       let z : 8 * i + suc k ≡ 8 * i + k + 1 = omega arith in
       rw z (some_more hit (8 * i + k) (clear_to i l e s k (omega arith)) (clear_at i k l (omega arith) e))
 
-  -- So many bytes passed with nothing in common.
-  pub record Passed (i : ℕ) : Type 0 where
-    pub upto : i ≤ 32
-    pub first_is : verdict_in rec ≡ 1
-    pub none : some (8 * i) hit ≡ false
+  -- So many bytes with nothing in common.
+  none_to : ((i : ℕ) → i < 32 → bit_and (nth rec (20 + i)) (nth touched i) ≡ 0) → (n : ℕ) → n ≤ 32 → some (8 * n) hit ≡ false
+  none_to h zero l = some_none hit
+  none_to h (suc n) l =
+      let z : 8 * suc n ≡ 8 * n + 8 = omega arith in
+      rw z (clear_to n (omega arith) (h n (omega arith)) (none_to h n (omega arith)) 8 (omega arith))
 
-  pub passed_none : verdict_in rec ≡ 1 → Passed 0
-  passed_none v = record { upto = omega arith; first_is = v; none = some_none hit }
-
-  pub passed_more : {i : ℕ} → Passed i → i < 32 → bit_and (nth rec (20 + i)) (nth touched i) ≡ 0 → Passed (i + 1)
-  passed_more {i} p l e =
-      let z : 8 * (i + 1) ≡ 8 * i + 8 = omega arith in
-      record { upto = omega arith; first_is = p.first_is; none = rw z (clear_to i l e p.none 8 (omega arith)) }
-
-  pub not_one : (verdict_in rec ≡ 1 → ⊥) → true ≡ listed rec touched
+  missed : verdict_in rec ≡ 1 → ((i : ℕ) → i < 32 → bit_and (nth rec (20 + i)) (nth touched i) ≡ 0) → false ≡ listed rec touched
   unfolding listed
-  not_one n = rw (ne_eqb (verdict_in rec) 1 n) refl
+  missed v h = rw (eq-eqb (verdict_in rec) 1 v, none_to h 32 (omega arith)) refl
 
-  pub passed_all : {i : ℕ} → Passed i → 32 ≤ i → false ≡ listed rec touched
+  met : {i : ℕ} → verdict_in rec ≡ 1 → i < 32 → nth rec (20 + i) < 256 → nth touched i < 256 → (bit_and (nth rec (20 + i)) (nth touched i) ≡ 0 → ⊥) → true ≡ listed rec touched
   unfolding listed
-  passed_all {i} p l =
-      let z : 8 * i ≡ 256 = omega (arith, p.upto) in
-      let s : some 256 hit ≡ false = rw z at p.none in
-      rw (eq-eqb (verdict_in rec) 1 p.first_is, s) refl
-
-  pub met : {i : ℕ} → Passed i → i < 32 → nth rec (20 + i) < 256 → nth touched i < 256 → (bit_and (nth rec (20 + i)) (nth touched i) ≡ 0 → ⊥) → true ≡ listed rec touched
-  unfolding listed
-  met {i} p l hx hy n = rw (eq-eqb (verdict_in rec) 1 p.first_is) (go (some 256 hit) refl)
+  met {i} v l hx hy n = rw (eq-eqb (verdict_in rec) 1 v) (go (some 256 hit) refl)
     where
       go : (t : Bool) → some 256 (λ j. names rec j && has touched j) ≡ t → true ≡ some 256 (λ j. names rec j && has touched j)
       go true e = sym e
@@ -120,3 +110,32 @@ module _ (rec touched : List ℕ) where
           let x : names rec (8 * i + (7 - k)) ≡ true = eq-eqb _ 1 (named_bit i (7 - k) l (omega arith) ∙ rw v a) in
           let y : has touched (8 * i + (7 - k)) ≡ true = eq-eqb _ 1 (touched_bit i (7 - k) (omega arith) ∙ rw v b) in
           true≢false (sym (rw (x, y) refl) ∙ no_some (λ j. names rec j && has touched j) 256 e (8 * i + (7 - k)) (omega arith))))
+
+  -- The bytes in pairs: whether two in a place have a bit in common.
+  abbrev pairs : List (ℕ × ℕ)
+  pairs = zip (take 32 (drop 20 rec)) touched
+
+  abbrev pub Common : ℕ × ℕ → Type 0
+  Common p = bit_and p.0 p.1 ≡ 0 → ⊥
+
+  abbrev pub Apart : ℕ × ℕ → Type 0
+  Apart p = bit_and p.0 p.1 ≡ 0
+
+  module _ (long : length rec ≡ 52) (wide : length touched ≡ 32) where
+    long_part : length (take 32 (drop 20 rec)) ≡ 32
+    long_part = length-take-le 32 (drop 20 rec) (rw length-drop (omega arith))
+
+    long_pairs : length pairs ≡ 32
+    long_pairs = omega (arith, length-zip (take 32 (drop 20 rec)) touched, long_part)
+
+    pair_at : (i : ℕ) → i < 32 → get_or pairs i (0, 0) ≡ (nth rec (20 + i), nth touched i)
+    pair_at i l =
+        get_or-zip (take 32 (drop 20 rec)) touched i (0, 0) (omega (arith, long_part)) (omega arith)
+        ∙ ap (λ (x : ℕ). (x, nth touched i)) (get_or-take 32 (drop 20 rec) i 0 l ∙ get_or-drop 20 rec i 0)
+
+    pub by_pairs : verdict_in rec ≡ 1 → Bytes rec → Bytes touched → (r : Bool)
+        → MatchBool r ((k : ℕ) × (k < length pairs) × HoldsAt Common pairs k) (AllWithin Apart pairs 0 (length pairs)) → r ≡ listed rec touched
+    by_pairs v x y true (k, h, f) =
+        let u : k < 32 = omega (arith, long_pairs) in
+        met v u (x (20 + k)) (y k) (rw (pair_at k u) at (f (0, 0)))
+    by_pairs v x y false f = missed v (λ i l. rw (pair_at i l) at (f i (0, 0) (omega arith) (omega (arith, long_pairs))))

@@ -4,7 +4,7 @@ use mathlib.Core.List.{List, [], ◌∷◌, ◌++◌, append-nil, append_assoc}
 use Prim.Native.Nat.{ℕ, zero, suc, ◌-◌, ◌+◌, ◌/◌, ◌%◌, ◌<◌, ◌≤◌}
 use native.Mathlib.Omega.{arith}
 use lib.ListN.{length, take, drop, set, drop_of_length-le, length-append, length-drop, get_or-append}
-use lib.Seq.{sets-eq, take_at, drop_at, take_all, get_or-append-add}
+use lib.Seq.{take_at, drop_at, take_all, get_or-append-add}
 use Rattle.rows.specs.Row.{nth, placed}
 use Rattle.rows.specs.Bit.{has}
 use Rattle.rows.proofs.Sum.{side, below, equal, above}
@@ -16,15 +16,21 @@ use Rattle.record.specs.Inside.{record_bytes}
 front : (a n : ℕ) (p rest s : List ℕ) → length p ≡ a → placed a n (p ++ rest) s ≡ p ++ s ++ drop n rest
 front a n p rest s e = rw (take_at p rest a e, drop_at p rest a e) (sym (append_assoc p s (drop n rest)))
 
--- Four bytes at the start, and two parts after them.
-pub made : (t : List ℕ) (v s : ℕ) (p q g h : List ℕ) → length t ≡ 52 → length g ≡ 16 → length h ≡ 32 → p ≡ g → q ≡ h
-    → placed 20 32 (placed 4 16 (set (set (set (set t 0 v) 1 (s / 65536)) 2 (s / 256 % 256)) 3 (s % 256)) p) q ≡ record_bytes v s g h
+-- The three bytes of a shortage.
+shortage_bytes : (s : ℕ) → s < 16777216 → (s / 65536 % 256 ∷ s / 256 % 256 ∷ s % 256 ∷ []) ≡ (s / 65536 ∷ s / 256 % 256 ∷ s % 256 ∷ [])
+shortage_bytes s h = let e : s / 65536 % 256 ≡ s / 65536 = omega arith in rw e
+
+-- A byte at the start, and three parts after it.
+pub made : (t : List ℕ) (v s : ℕ) (o p q g h : List ℕ) → length t ≡ 52 → s < 16777216 → length g ≡ 16 → length h ≡ 32
+    → o ≡ (s / 65536 % 256 ∷ s / 256 % 256 ∷ s % 256 ∷ []) → p ≡ g → q ≡ h
+    → placed 20 32 (placed 4 16 (placed 1 3 (set t 0 v) o) p) q ≡ record_bytes v s g h
 unfolding record_bytes
-made t v s p q g h lt lg lh ep eq =
+made [] v s o p q g h lt small lg lh eo ep eq = absurd (omega arith)
+made (x ∷ t) v s o p q g h lt small lg lh eo ep eq =
     let f = v ∷ s / 65536 ∷ s / 256 % 256 ∷ s % 256 ∷ [] in
     let l : length (f ++ g) ≡ 20 = simp length-append (omega arith) in
-    let z : length (drop 16 (drop 4 t)) ≤ 32 = simp length-drop (omega arith) in
-    rw (ep, eq, sets-eq f t 0 (omega arith), front 4 16 f (drop 4 t) g refl, front 20 32 (f ++ g) (drop 16 (drop 4 t)) h l, drop_of_length-le (drop 16 (drop 4 t)) {i = 32} z)
+    let z : length (drop 16 (drop 3 t)) ≤ 32 = simp length-drop (omega arith) in
+    rw (eo ∙ shortage_bytes s small, ep, eq, front 4 16 f (drop 3 t) g refl, front 20 32 (f ++ g) (drop 16 (drop 3 t)) h l, drop_of_length-le (drop 16 (drop 3 t)) {i = 32} z)
     (append-nil ((f ++ g) ++ h) ∙ append_assoc f g h)
 
 module _ (v s : ℕ) (g h : List ℕ) (lg : length g ≡ 16) (lh : length h ≡ 32) where

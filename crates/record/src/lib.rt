@@ -5,7 +5,7 @@ ghost use Rattle.std.specs.Prelude.{◌≡◌, ◌+◌, ◌*◌, ◌≤◌, ◌<
 ghost use Rattle.verdict.specs.Record.{verdict_in};
 ghost use Rattle.record.specs.Inside.{Stretch, record_bytes, Read, listed};
 
-// What a record shows of its branch.
+// What a record shows of its branch. The verdict stays a byte: a lent table may hold any, and what `Read` promises of it is the byte itself.
 #[derive(Clone, Copy)]
 pub struct Entry {
     pub verdict: u8,
@@ -23,35 +23,15 @@ pub fn stretch(table: &[u8], k: usize) -> &[u8]
     &table[a..e]
 }
 
-// All of one stretch into another as long.
-fn copy(from: &[u8], to: &mut [u8])
-    requires { length from.now ≡ length to.old }
-    ensures { to.new ≡ from.now }
-{
-    let mut i: usize = 0;
-    while i < to.len() {
-        to[i] = from[i];
-        i += 1;
-    }
-}
-
 // All 52 bytes of a record.
 pub fn write(rec: &mut [u8], verdict: u8, shortage: u32, group: [u8; 16], reroute: [u8; 32])
     requires { (length rec.old ≡ 52) × (shortage < 16777216) }
     ensures { rec.new ≡ record_bytes verdict shortage group reroute }
 {
     rec[0] = verdict;
-    rec[1] = (shortage / 65536) as u8;
-    rec[2] = (shortage / 256 % 256) as u8;
-    rec[3] = (shortage % 256) as u8;
-    copy(&group, &mut rec[4..20]);
-    copy(&reroute, &mut rec[20..52]);
-}
-
-fn wide(x: u8) -> u32
-    ensures { (result ≡ x) × (result < 256) }
-{
-    x as u32
+    rec[1..4].copy_from_slice(&shortage.to_be_bytes()[1..]);
+    rec[4..20].copy_from_slice(&group);
+    rec[20..52].copy_from_slice(&reroute);
 }
 
 // What a record shows.
@@ -60,10 +40,10 @@ pub fn read(rec: &[u8]) -> Entry
     ensures { Read rec.now result }
 {
     let mut group = [0u8; 16];
-    copy(&rec[4..20], &mut group);
+    group.copy_from_slice(&rec[4..20]);
     Entry {
         verdict: rec[0],
-        shortage: wide(rec[1]) * 65536 + wide(rec[2]) * 256 + wide(rec[3]),
+        shortage: u32::from_be_bytes([0, rec[1], rec[2], rec[3]]),
         group,
     }
 }
@@ -74,7 +54,7 @@ pub fn reroute_of(rec: &[u8]) -> [u8; 32]
     ensures { result ≡ take 32 (drop 20 rec.now) }
 {
     let mut reroute = [0u8; 32];
-    copy(&rec[20..52], &mut reroute);
+    reroute.copy_from_slice(&rec[20..52]);
     reroute
 }
 
@@ -87,6 +67,7 @@ pub fn carries(rec: &[u8]) -> bool
 }
 
 // Byte 0 isn't 1, or the reroute names a touched branch. A byte of both is tested at once.
+#[tactic(auto, unfolding(crate::specs::Inside::listed))]
 pub fn is_listed(rec: &[u8], touched: [u8; 32]) -> bool
     requires { length rec.now ≡ 52 }
     ensures { result ≡ listed rec.now touched }
@@ -94,12 +75,8 @@ pub fn is_listed(rec: &[u8], touched: [u8; 32]) -> bool
     if !carries(rec) {
         return true;
     }
-    let mut i: usize = 0;
-    while i < 32 {
-        if (rec[20 + i] & touched[i]) != 0 {
-            return true;
-        }
-        i += 1;
-    }
-    false
+    rec[20..52]
+        .iter()
+        .zip(&touched)
+        .any(|(named, mark)| named & mark != 0)
 }

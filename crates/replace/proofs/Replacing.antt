@@ -1,5 +1,5 @@
 -- Each way in which the lost branch's flow is replaced meets the promise.
-use mathlib.Core.Path.{◌≡◌, refl, sym, ap, subst}
+use mathlib.Core.Path.{◌≡◌, refl, sym, ap, subst, ◌∙◌}
 use mathlib.Core.Bool.{Bool, true, false, cond}
 use mathlib.Core.List.{List}
 use Prim.Native.Nat.{ℕ, ◌+◌, ◌≤◌, ◌<◌}
@@ -12,7 +12,6 @@ use Rattle.rows.specs.Row.{nth}
 use Rattle.rows.specs.Bit.{has}
 use Rattle.rows.specs.Sum.{pick}
 use Rattle.rows.proofs.Sum.{over_set, over_zero, pick_zero, side, below, equal, above}
-use Rattle.bits.proofs.ReadAsPut.{bit_zeros, bytes_zeros}
 use Rattle.grid.proofs.Net.{without}
 use Rattle.grid.proofs.Flow.{Within, Balanced}
 use Rattle.grid.proofs.Cut.{Settled, upper}
@@ -25,13 +24,17 @@ use Rattle.reroute.specs.InsideVerdicts.{Carrying, Says, Losable, Lost}
 use Rattle.reroute.specs.declared.Judgement.{Judgement}
 use Rattle.reroute.specs.declared.Rest.{Rest}
 use Rattle.reroute.specs.declared.Moved.{Moved}
-use Rattle.reroute.specs.declared.Verdict.{Verdict}
+use Rattle.std.specs.Prelude.{Option, None, Some}
+use Rattle.reroute.specs.declared.Shortfall.{Shortfall}
 use Rattle.reroute.proofs.OnePlace.{cut_same, cut_none}
 use Rattle.reroute.proofs.FlowVerdicts.{linked_ends, lost_row}
 use Rattle.replace.specs.Inside.{Chosen, CarriesWith, Replaced}
 use Rattle.replace.proofs.Confining.{confined_carries, none_confined}
 use Rattle.replace.proofs.AttemptRows.{kept_same, lost_none}
 use Rattle.replace.proofs.MergedRows.{nothing, merged_outside, merged_beyond, merged_lost}
+
+none_some : {s : Shortfall} → None ≡ Some s → ⊥
+none_some e = cc
 
 module _ (W : Wires) (live : List ℕ) (latent : Latent) (named : List ℕ) (k : ℕ) (P : Losable W live latent k) (la : length latent.ahead ≡ 256)
     (lb : length latent.back ≡ 256) where
@@ -47,12 +50,10 @@ module _ (W : Wires) (live : List ℕ) (latent : Latent) (named : List ℕ) (k :
     kept = λ i o. rw S.latent (kept i o);
     says = λ gain load B.
         let N = without (network W (nth live) gain load) k in
-        subst (λ (v : Verdict). Says N (carried N.limit j.latent.ahead) (has j.group) v) (sym S.verdict)
+        subst (λ (o : Option Shortfall). Says N (carried N.limit j.latent.ahead) o) (sym S.short)
         (rw S.latent (says gain load B));
     unlisted = λ i u. rw S.latent (past i u);
-    empty = λ _. S.group;
-    beyond = λ v u w. rw (S.group, bit_zeros 16 v) refl;
-    bytes = λ i u. rw S.group (bytes_zeros 16 i);
+    grouped = λ s e. absurd (none_some (sym S.short ∙ e));
   }
 
   -- ---- A branch without flow.

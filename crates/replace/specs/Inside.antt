@@ -1,5 +1,5 @@
 -- What replacing the flow of a lost branch promises.
-use Rattle.std.specs.Prelude.{◌≡◌, true, false, List, ℕ, ◌+◌, ◌<◌, ◌≤◌, replicate}
+use Rattle.std.specs.Prelude.{◌≡◌, true, false, List, ℕ, ◌+◌, ◌<◌, ◌≤◌, None}
 use Rattle.rows.specs.Row.{nth}
 use Rattle.rows.specs.Bit.{has}
 use Rattle.grid.proofs.Net.{without}
@@ -9,7 +9,6 @@ use Rattle.reroute.specs.InsideMoves.{network, carried, SameAt}
 use Rattle.reroute.specs.InsideVerdicts.{Lost}
 use Rattle.reroute.specs.declared.Judgement.{Judgement}
 use Rattle.search.specs.declared.Latent.{Latent}
-use Rattle.reroute.specs.declared.Verdict.TheVariants.{Carries}
 
 -- x on the named branches below n, and y elsewhere.
 pub record Chosen (n : ℕ) (named : List ℕ) (x y r : Latent) : Type 0 where
@@ -19,9 +18,8 @@ pub record Chosen (n : ℕ) (named : List ℕ) (x y r : Latent) : Type 0 where
 
 -- The branch carries, with the latent capacities x.
 pub record CarriesWith (x : Latent) (r : Judgement) : Type 0 where
-  pub verdict : r.verdict ≡ Carries
+  pub short : r.short ≡ None
   pub latent : r.latent ≡ x
-  pub group : r.group ≡ replicate 16 0
 
 -- A flow h of the network without k that differs from the present one only on named branches.
 pub record NamedOnly (W : Wires) (live a named : List ℕ) (k : ℕ) (gain load : ℕ → ℕ) (h : Flow) : Type 0 where

@@ -4,9 +4,9 @@
 
 ghost use Rattle.std.specs.Prelude.{◌≤◌};
 ghost use Rattle.reroute.specs.InsideVerdicts.{Losable};
-ghost use Rattle.replace.specs.Inside.{Chosen, CarriesWith, Replaced};
+ghost use Rattle.replace.specs.Inside.{Chosen, Replaced};
 
-use reroute::{Judgement, Verdict};
+use reroute::Judgement;
 use search::{Latent, Wires};
 
 // The latent capacities of `inside` on the named branches, and those of `outside` on all others.
@@ -25,16 +25,6 @@ fn chosen(branches: usize, named: [u8; 32], inside: Latent, mut outside: Latent)
     outside
 }
 
-fn stands(latent: Latent) -> Judgement
-    ensures { CarriesWith latent result }
-{
-    Judgement {
-        verdict: Verdict::Carries,
-        latent,
-        group: [0u8; 16],
-    }
-}
-
 // A branch without flow leaves all others as they are.
 pub fn replace(
     wires: Wires,
@@ -48,7 +38,10 @@ pub fn replace(
 {
     let cut = reroute::without(latent, lost);
     if latent.ahead[lost] == live[lost] {
-        return stands(cut);
+        return Judgement {
+            latent: cut,
+            short: None,
+        };
     }
     let rest = reroute::rest_of(wires, live, latent, lost);
     let none = Latent {
@@ -59,7 +52,10 @@ pub fn replace(
     let moved = reroute::reroute(wires, within, rest);
     if moved.left == 0 {
         let taken = moved.latent;
-        return stands(chosen(wires.branches, named, taken, cut));
+        return Judgement {
+            latent: chosen(wires.branches, named, taken, cut),
+            short: None,
+        };
     }
     reroute::loss(wires, live, latent, lost)
 }

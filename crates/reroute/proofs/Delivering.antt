@@ -15,7 +15,7 @@ use Rattle.reroute.specs.Inside.{Judged, rest_between}
 use Rattle.reroute.specs.declared.Moved.{Moved}
 use Rattle.reroute.specs.declared.Judgement.{Judgement}
 use Rattle.reroute.proofs.OnePlace.{one_at}
-use Rattle.reroute.proofs.FlowVerdicts.{judged_says, pick_apart}
+use Rattle.reroute.proofs.FlowVerdicts.{judged_says, judged_grouped, pick_apart}
 
 module _ {W : Wires} {latent : Latent} {u v x : ℕ} (P : Deliverable W latent u v x) where
   surplus_at : (y i : ℕ) → nth (rest_between u v y).surplus i ≡ pick (eqb u i) y
@@ -55,6 +55,5 @@ module _ {W : Wires} {latent : Latent} {u v x : ℕ} (P : Deliverable W latent u
         falls = λ k. rw J.latent (omega (arith, R.falls k));
         says = λ limit gain load gain' load' e B d.
             judged_says W P.linked latent (rest_between u v x) m R limit gain' load' e (settles limit gain load gain' load' B d) j J;
-        beyond = rw J.group R.beyond;
-        bytes = rw J.group R.bytes;
+        grouped = judged_grouped R J;
       }

@@ -9,7 +9,6 @@ use lib.Dec.{eqb}
 use lib.ListN.{length, set, replicate}
 use Rattle.rows.specs.Row.{nth}
 use Rattle.rows.specs.Sum.{all, pick}
-use Rattle.rows.specs.Bit.{has}
 use Rattle.rows.proofs.Sum.{pick_zero, over_set, over_term}
 use Rattle.grid.proofs.Net.{EndsThere, gains, loads}
 use Rattle.grid.proofs.Flow.{Balanced}
@@ -19,25 +18,18 @@ use Rattle.search.specs.InsideLinks.{Linked}
 use Rattle.search.specs.declared.Wires.{Wires}
 use Rattle.search.specs.declared.Latent.{Latent}
 use Rattle.reroute.specs.InsideMoves.{network, carried, TwiceLimit, total, Reroutable, Settles, Reroutes}
-use Rattle.reroute.specs.InsideVerdicts.{Carrying, Says, Basic, Based, Losable, Lost}
-use Rattle.reroute.specs.Inside.{judged, Judged, cut_at, Opened}
+use Rattle.reroute.specs.InsideVerdicts.{Carrying, Says, Grouped, Basic, Based, Losable, Lost}
+use Rattle.reroute.specs.Inside.{short_by, Judged, cut_at, Opened}
 use Rattle.reroute.specs.declared.Rest.{Rest}
 use Rattle.reroute.specs.declared.Moved.{Moved}
-use Rattle.reroute.specs.declared.Verdict.TheVariants.{Carries, Short}
+use Rattle.std.specs.Prelude.{Some}
+use Rattle.reroute.specs.declared.Shortfall.{Shortfall}
 use Rattle.reroute.specs.declared.Judgement.{Judgement}
 use Rattle.reroute.proofs.OnePlace.{pick_sub, one_at, set_zero, cut_same, cut_none}
 
-pub judged_zero : (n : ℕ) → n ≡ 0 → Carries ≡ judged n
-judged_zero zero e = refl
-judged_zero (suc n) e = absurd (omega arith)
-
-pub judged_some : (n : ℕ) → (n ≡ 0 → ⊥) → Short n ≡ judged n
-judged_some zero e = absurd (e refl)
-judged_some (suc n) e = refl
-
-judged_carries : (n : ℕ) → judged n ≡ Carries → n ≡ 0
-judged_carries zero e = refl
-judged_carries (suc n) e = cc
+short_group : (n : ℕ) (g : List ℕ) (s : Shortfall) → short_by n g ≡ Some s → s.group ≡ g
+short_group zero g s e = cc
+short_group (suc n) g s e = cc
 
 pub linked_ends : (W : Wires) → Linked W → (limit gain load : ℕ → ℕ) → EndsThere (network W limit gain load)
 linked_ends W K limit gain load = record { first_in = K.wired.first_in; second_in = K.wired.second_in }
@@ -67,22 +59,19 @@ module _ (W : Wires) (K : Linked W) (latent : Latent) (rest : Rest) (r : Moved) 
         whole (network W limit gain load) (carried limit r.latent.ahead) (nth r.rest.surplus) (nth r.rest.deficit) (linked_ends W K limit gain load) bal all,
       )
 
-  says : (n : ℕ) → r.left ≡ n → Says (network W limit gain load) (carried limit r.latent.ahead) (has r.group) (judged n)
+  says : (n : ℕ) → r.left ≡ n → Says (network W limit gain load) (carried limit r.latent.ahead) (short_by n r.group)
   says zero z = carrying z
   says (suc n) z = record { some = omega arith; smallest = rw z at (R.smallest limit gain load e B) }
 
-  pub judged_says : (j : Judgement) → Judged r j → Says (network W limit gain load) (carried limit j.latent.ahead) (has j.group) j.verdict
-  judged_says j J = rw (J.verdict, J.latent, J.group) (says r.left refl)
+  pub judged_says : (j : Judgement) → Judged r j → Says (network W limit gain load) (carried limit j.latent.ahead) j.short
+  judged_says j J = rw (J.short, J.latent) (says r.left refl)
 
--- Nothing is short: no group is shown.
-judged_empty : {W : Wires} {latent : Latent} {rest : Rest} {r : Moved} {j : Judgement} → Reroutes W latent rest r → Judged r j → j.verdict ≡ Carries
-    → j.group ≡ replicate 16 0
-judged_empty {r = r} R J e = J.group ∙ R.empty (judged_carries r.left (sym J.verdict ∙ e))
-
--- The base flow.
-pub basic_ready : {W : Wires} {limit gain load : List ℕ} → Basic W limit gain load
-    → Reroutable W (record { ahead = limit; back = limit }) (record { surplus = gain; deficit = load })
-basic_ready P = record { linked = P.linked; sums = record { fit = λ k h. omega (arith, P.limits k h) }; small = P.gains_small; apart = P.apart }
+-- The group that is short is the one of the reroute.
+pub judged_grouped : {W : Wires} {latent : Latent} {rest : Rest} {r : Moved} {j : Judgement} → Reroutes W latent rest r → Judged r j
+    → (s : Shortfall) → j.short ≡ Some s → Grouped W.buses s.group
+judged_grouped {r = r} R J s e =
+    let g : s.group ≡ r.group = short_group r.left r.group s (sym J.short ∙ e) in
+    rw g (record { long = J.long; beyond = R.beyond; bytes = R.bytes })
 
 pub based : {W : Wires} {limit gain load : List ℕ} → Basic W limit gain load → {m : Moved}
     → Reroutes W (record { ahead = limit; back = limit }) (record { surplus = gain; deficit = load }) m → {j : Judgement} → Judged m j
@@ -92,9 +81,7 @@ based {W} {limit} {gain} {load} P {m} R {j} J =
       kept = λ k. rw J.latent (R.kept k);
       unlisted = λ k h. rw J.latent (R.unlisted k h).0;
       says = judged_says W P.linked (record { ahead = limit; back = limit }) (record { surplus = gain; deficit = load }) m R (nth limit) (nth gain) (nth load) (record { twice = λ k h. refl }) (record { bus = λ i h. omega arith }) j J;
-      empty = judged_empty R J;
-      beyond = rw J.group R.beyond;
-      bytes = rw J.group R.bytes;
+      grouped = judged_grouped R J;
     }
 
 -- What is left at the ends of a lost branch: x at one of them, and a lack of x at the other.
@@ -204,7 +191,5 @@ module _ {W : Wires} {limit : List ℕ} {latent : Latent} {k : ℕ} (P : Losable
             kept = λ i g. rw J.latent (omega (arith, R.kept i, cut_same latent k i g));
             unlisted = λ i h. rw J.latent ((R.unlisted i h).0 ∙ (cut_same latent k i (omega (arith, P.below))).0);
             says = λ gain load B. judged_says W P.linked (cut_at latent k) rest m R (λ i. cond (eqb i k) 0 (nth limit i)) gain load cut_even (cut_balanced gain load B) j J;
-            empty = judged_empty R J;
-            beyond = rw J.group R.beyond;
-            bytes = rw J.group R.bytes;
+            grouped = judged_grouped R J;
           }

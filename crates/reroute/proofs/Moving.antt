@@ -17,7 +17,7 @@ use Rattle.search.specs.declared.Wires.{Wires}
 use Rattle.search.specs.declared.Latent.{Latent}
 use Rattle.reroute.specs.InsideMoves.{Sums}
 use Rattle.reroute.specs.Inside.{ends, Movable, Moves}
-use Rattle.reroute.proofs.Walks.{Hop, Walk, walk_start, walk_bus, walk_end, both, two, branch, walk_on, to_second, walk_forth, walk_back}
+use Rattle.reroute.proofs.Walks.{Hop, Walk, walk_start, walk_end, both, branch, walk_on, to_second, walk_forth, walk_back}
 
 narrow_ahead : (f s a b : List ℕ) (v k : ℕ) (ks : List ℕ) → nth s k ≡ v → narrow f s a b v (k ∷ ks) ≡ min (narrow f s a b (nth f k) ks) (nth a k)
 narrow_ahead f s a b v k ks e = rw (eq-eqb (nth s k) v e)
@@ -76,13 +76,7 @@ going_start {W} {m} {latent} {goal} {x} M long long_a long_b =
     }
 
 module _ {n : ℕ} {f s a₀ b₀ m : List ℕ} {goal x : ℕ} {a b : List ℕ} {at steps : ℕ} (G : Going n f s a₀ b₀ m goal x a b at steps) where
-  pub going_bus : at < length m
-  going_bus = omega (arith, G.long, walk_bus n f s m goal at steps G.walk)
-
   module _ (z : nth m at ≡ 1 → ⊥) where
-    pub going_two : 2 ≤ nth m at
-    going_two = two n f s m goal at steps G.walk z
-
     in_n : nth m at - 2 < n
     in_n = branch n f s m goal at steps G.walk z
 

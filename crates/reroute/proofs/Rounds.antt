@@ -1,5 +1,5 @@
 -- The rounds of rerouting: what every round keeps, and what one route changes.
-use mathlib.Core.Path.{◌≡◌, refl, sym, subst, ◌∙◌}
+use mathlib.Core.Path.{◌≡◌, sym, subst, ◌∙◌}
 use mathlib.Core.List.{List}
 use Prim.Native.Nat.{ℕ, ◌+◌, ◌-◌, ◌<◌, ◌≤◌}
 use native.Mathlib.Omega.{arith}
@@ -18,7 +18,7 @@ use Rattle.search.specs.declared.Search.TheVariants.{Route}
 use Rattle.search.specs.declared.Found.{Found}
 use Rattle.search.proofs.Answering.{route_of}
 use Rattle.reroute.specs.InsideMoves.{both_ways, total, Reroutable}
-use Rattle.reroute.specs.Inside.{role_of, Roles, Movable, ends, Moves}
+use Rattle.reroute.specs.Inside.{role_of, Roles, ends, Moves}
 use Rattle.reroute.specs.declared.Rest.{Rest}
 use Rattle.reroute.proofs.OnePlace.{set_less}
 use Rattle.reroute.proofs.Casting.{role_surplus, role_deficit}
@@ -40,26 +40,6 @@ pub record Round (W : Wires) (latent₀ : Latent) (rest₀ : Rest) (latent : Lat
       ≡ ends W.branches W.first latent₀.ahead i + ends W.branches W.second latent.ahead i + nth rest.surplus i + nth rest₀.deficit i
   pub roles : Roles W.buses rest r
   pub sum : left ≡ total W.buses rest.surplus
-
-pub round_none : {W : Wires} {latent : Latent} {rest : Rest} {r : List ℕ} {left : ℕ} → Reroutable W latent rest → length rest.surplus ≡ 128
-    → length rest.deficit ≡ 128 → length r ≡ 128
-    → Roles W.buses rest r → left ≡ total W.buses rest.surplus → Round W latent rest latent rest r left
-round_none P p q o K e =
-    record {
-      ready = P;
-      long_l = p;
-      long_d = q;
-      long_r = o;
-      same = λ k. refl;
-      beyond = λ k h. refl;
-      rises = λ k. omega arith;
-      falls = λ k. omega arith;
-      less_l = λ i. omega arith;
-      less_d = λ i. omega arith;
-      drift = λ i. refl;
-      roles = K;
-      sum = e;
-    }
 
 -- What is moved over a route: no more than it has room for, than the surplus s and than the deficit t, and something if each is.
 pub record Amount (room s t x : ℕ) : Type 0 where
@@ -101,21 +81,8 @@ module _ {W : Wires} {w : Work} {r : List ℕ} {fd : Found} (S : Searched W w r 
   apart g = let z : nth rest.surplus start ≡ 0 = subst (λ (v : ℕ). nth rest.surplus v ≡ 0) g no_more in omega (arith, start_some)
 
   module _ {x : ℕ} (A : Amount room (nth rest.surplus start) (nth rest.deficit goal) x) where
-    pub round_movable : Movable W fd.work.marks fd.work.latent goal x
-    round_movable =
-        rw S.same_latent (record {
-          few = R.ready.linked.wired.size;
-          room = room;
-          trail = routed.trail;
-          fits = A.in_room;
-          sums = record { fit = λ k h. omega (arith, R.ready.sums.fit k h, R.same k) };
-        })
-
     pub in_left : x ≤ left
     in_left = omega (arith, A.in_surplus, R.sum, over_term W.buses all (nth rest.surplus) start start_in)
-
-    pub round_less : left - x < left
-    round_less = omega (arith, A.some routed.some start_some goal_some, in_left)
 
     less_at : (i : ℕ) → nth (set rest.surplus start (nth rest.surplus start - x)) i + pick (eqb start i) x ≡ nth rest.surplus i
     less_at i = set_less rest.surplus start x i (omega (arith, R.long_l, start_bus)) A.in_surplus

@@ -70,9 +70,6 @@ unfoldable pub walk_start : (n : ℕ) (f s m : List ℕ) (goal from : ℕ) (ks :
 walk_start n f s m goal from ks p l = record { from = from; ks = ks; path = p; every = ks; origin = p; left = omega arith }
 
 module _ (n : ℕ) (f s m : List ℕ) (goal at steps : ℕ) (T : Walk n f s m goal at steps) where
-  pub walk_bus : at < 128
-  walk_bus = bus_of n f s m T.from at T.ks T.path
-
   pub walk_end : nth m at ≡ 1 → (from : ℕ) (ks : List ℕ) → Path n f s m from goal ks → from ≡ at
   walk_end z from ks p = one_start n f s m T.from from goal T.every ks T.origin p ∙ arrived n f s m T.from at T.ks T.path z
 

@@ -1,5 +1,5 @@
 -- What the inner functions of rerouting promise.
-use Rattle.std.specs.Prelude.{◌≡◌, List, ℕ, zero, suc, ◌+◌, ◌<◌, ◌≤◌, min, eqb, set, replicate}
+use Rattle.std.specs.Prelude.{◌≡◌, List, ℕ, zero, suc, ◌+◌, ◌<◌, ◌≤◌, min, eqb, set, replicate, length, Option, None, Some}
 use Rattle.rows.specs.Row.{nth}
 use Rattle.rows.specs.Sum.{pick, over}
 use Rattle.search.specs.InsideSearch.{Path, Trail}
@@ -8,8 +8,7 @@ use Rattle.search.specs.declared.Latent.{Latent}
 use Rattle.reroute.specs.InsideMoves.{both_ways, Sums}
 use Rattle.reroute.specs.declared.Rest.{Rest}
 use Rattle.reroute.specs.declared.Moved.{Moved}
-use Rattle.reroute.specs.declared.Verdict.{Verdict}
-use Rattle.reroute.specs.declared.Verdict.TheVariants.{Carries, Short}
+use Rattle.reroute.specs.declared.Shortfall.{Shortfall}
 use Rattle.reroute.specs.declared.Judgement.{Judgement}
 
 -- 1 where there is a surplus, 2 where there is a deficit alone, else 0.
@@ -50,15 +49,15 @@ pub record Summable (n : ℕ) (row : List ℕ) : Type 0 where
   pub few : n ≤ 128
   pub small : (i : ℕ) → i < n → nth row i ≤ 2000000
 
--- Carries where nothing is left, and short by what is left where some is.
-abbrev pub judged : ℕ → Verdict
-judged zero = Carries
-judged (suc n) = Short (suc n)
+-- Nothing is short where nothing is left, and the group g is short by what is left where some is.
+abbrev pub short_by : ℕ → List ℕ → Option Shortfall
+short_by zero g = None
+short_by (suc n) g = Some (record { excess = suc n; group = g })
 
 pub record Judged (m : Moved) (r : Judgement) : Type 0 where
-  pub verdict : r.verdict ≡ judged m.left
+  pub short : r.short ≡ short_by m.left m.group
   pub latent : r.latent ≡ m.latent
-  pub group : r.group ≡ m.group
+  pub long : length m.group ≡ 16
 
 -- The latent capacities with none on branch k.
 abbrev pub cut_at : Latent → ℕ → Latent

@@ -1,5 +1,5 @@
 -- What the base flow, the loss of one branch and x brought from one bus to another say of a network.
-use Rattle.std.specs.Prelude.{◌≡◌, false, List, ℕ, ◌+◌, ◌<◌, ◌≤◌, min, replicate, eqb}
+use Rattle.std.specs.Prelude.{◌≡◌, false, List, ℕ, ◌+◌, ◌<◌, ◌≤◌, min, length, eqb, Option, None, Some}
 use Rattle.rows.specs.Row.{nth}
 use Rattle.rows.specs.Sum.{Group, all, pick}
 use Rattle.rows.specs.Bit.{has}
@@ -10,8 +10,7 @@ use Rattle.search.specs.InsideLinks.{Linked}
 use Rattle.search.specs.declared.Wires.{Wires}
 use Rattle.search.specs.declared.Latent.{Latent}
 use Rattle.reroute.specs.InsideMoves.{network, carried, both_ways, NoneAt, TwiceLimit, Sums}
-use Rattle.reroute.specs.declared.Verdict.{Verdict}
-use Rattle.reroute.specs.declared.Verdict.TheVariants.{Carries, Short}
+use Rattle.reroute.specs.declared.Shortfall.{Shortfall}
 use Rattle.reroute.specs.declared.Judgement.{Judgement}
 
 -- The flow keeps to the limits and balances, and no group has an excess.
@@ -25,9 +24,16 @@ pub record Shortage (N : Net) (R : Group) (e : ℕ) : Type 0 where
   pub some : 0 < e
   pub smallest : Smallest N R e
 
-abbrev pub Says : Net → Flow → Group → Verdict → Type 0
-Says N f R Carries = Carrying N f
-Says N f R (Short e) = Shortage N R e
+-- What a judgement says by what is short.
+abbrev pub Says : Net → Flow → Option Shortfall → Type 0
+Says N f None = Carrying N f
+Says N f (Some s) = Shortage N (has s.group) s.excess
+
+-- 16 bytes with no bit of a bus that the network doesn't have.
+pub record Grouped (n : ℕ) (g : List ℕ) : Type 0 where
+  pub long : length g ≡ 16
+  pub beyond : (v : ℕ) → n ≤ v → v < 128 → has g v ≡ false
+  pub bytes : (j : ℕ) → j < 16 → nth g j < 256
 
 -- The base flow asks for limits of at most 1,000,000, gains of at most 2,000,000, and no bus with both gain and load.
 pub record Basic (W : Wires) (limit gain load : List ℕ) : Type 0 where
@@ -39,10 +45,8 @@ pub record Basic (W : Wires) (limit gain load : List ℕ) : Type 0 where
 pub record Based (W : Wires) (limit gain load : List ℕ) (r : Judgement) : Type 0 where
   pub kept : (k : ℕ) → both_ways r.latent k ≡ nth limit k + nth limit k
   pub unlisted : (k : ℕ) → W.branches ≤ k → nth r.latent.ahead k ≡ nth limit k
-  pub says : Says (network W (nth limit) (nth gain) (nth load)) (carried (nth limit) r.latent.ahead) (has r.group) r.verdict
-  pub empty : r.verdict ≡ Carries → r.group ≡ replicate 16 0
-  pub beyond : (v : ℕ) → W.buses ≤ v → v < 128 → has r.group v ≡ false
-  pub bytes : (j : ℕ) → j < 16 → nth r.group j < 256
+  pub says : Says (network W (nth limit) (nth gain) (nth load)) (carried (nth limit) r.latent.ahead) r.short
+  pub grouped : (s : Shortfall) → r.short ≡ Some s → Grouped W.buses s.group
 
 -- The loss of branch k, between two different buses.
 pub record Losable (W : Wires) (limit : List ℕ) (latent : Latent) (k : ℕ) : Type 0 where
@@ -62,11 +66,8 @@ pub record Lost (W : Wires) (limit : List ℕ) (latent : Latent) (k : ℕ) (r : 
       → Says
       (without (network W (nth limit) gain load) k)
       (carried (without (network W (nth limit) gain load) k).limit r.latent.ahead)
-      (has r.group)
-      r.verdict
-  pub empty : r.verdict ≡ Carries → r.group ≡ replicate 16 0
-  pub beyond : (v : ℕ) → W.buses ≤ v → v < 128 → has r.group v ≡ false
-  pub bytes : (j : ℕ) → j < 16 → nth r.group j < 256
+      r.short
+  pub grouped : (s : Shortfall) → r.short ≡ Some s → Grouped W.buses s.group
 
 -- x, of at most 2,000,000, brought from bus u to another bus v.
 pub record Deliverable (W : Wires) (latent : Latent) (u v x : ℕ) : Type 0 where
@@ -86,6 +87,5 @@ pub record Delivered (W : Wires) (latent : Latent) (u v x : ℕ) (r : Judgement)
       (limit gain load gain' load' : ℕ → ℕ) → TwiceLimit W.branches latent limit
       → Balanced (network W limit gain load) (carried limit latent.ahead) (λ i. 0) (λ i. 0)
       → ((i : ℕ) → gain' i + load i + pick (eqb v i) x ≡ gain i + load' i + pick (eqb u i) x)
-      → Says (network W limit gain' load') (carried limit r.latent.ahead) (has r.group) r.verdict
-  pub beyond : (v : ℕ) → W.buses ≤ v → v < 128 → has r.group v ≡ false
-  pub bytes : (j : ℕ) → j < 16 → nth r.group j < 256
+      → Says (network W limit gain' load') (carried limit r.latent.ahead) r.short
+  pub grouped : (s : Shortfall) → r.short ≡ Some s → Grouped W.buses s.group

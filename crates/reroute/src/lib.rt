@@ -8,7 +8,7 @@ ghost use Rattle.reroute.specs.InsideVerdicts.{Basic, Based, Losable, Lost, Deli
 ghost use Rattle.reroute.specs.Inside.{role_of, Roles, Movable, Moves, Summable, Judged, Opened, cut_at, rest_between};
 ghost use Rattle.std.specs.Prelude.{◌<◌, ◌≤◌, ◌≡◌};
 
-use search::{Latent, Search, Wires, Work, smaller};
+use search::{Latent, Search, Wires, Work};
 
 // What is left at each bus.
 #[derive(Clone, Copy)]
@@ -26,17 +26,18 @@ pub struct Moved {
     pub left: u32,
 }
 
+// By how much a network is short, and the smallest group with that excess.
 #[derive(Clone, Copy)]
-pub enum Verdict {
-    Carries,
-    Short { excess: u32 },
+pub struct Shortfall {
+    pub excess: u32,
+    pub group: [u8; 16],
 }
 
+// What is latent then; the network carries where nothing is short.
 #[derive(Clone, Copy)]
 pub struct Judgement {
-    pub verdict: Verdict,
     pub latent: Latent,
-    pub group: [u8; 16],
+    pub short: Option<Shortfall>,
 }
 
 fn role(surplus: u32, deficit: u32) -> u8
@@ -44,8 +45,10 @@ fn role(surplus: u32, deficit: u32) -> u8
 {
     if surplus > 0 {
         1
+    } else if deficit > 0 {
+        2
     } else {
-        if deficit > 0 { 2 } else { 0 }
+        0
     }
 }
 
@@ -54,10 +57,8 @@ fn roles(buses: usize, rest: Rest) -> [u8; 128]
     ensures { Roles buses rest result }
 {
     let mut row = [0u8; 128];
-    let mut v: usize = 0;
-    while v < buses {
+    for v in 0..buses {
         row[v] = role(rest.surplus[v], rest.deficit[v]);
-        v += 1;
     }
     row
 }
@@ -66,13 +67,7 @@ fn sum(buses: usize, row: [u32; 128]) -> u32
     requires { Summable buses row }
     ensures { result ≡ total buses row }
 {
-    let mut sum: u32 = 0;
-    let mut v: usize = 0;
-    while v < buses {
-        sum += row[v];
-        v += 1;
-    }
-    sum
+    row[..buses].iter().sum()
 }
 
 // Moves x along the way that the marks lead back from the goal: each branch loses it one way and gains it the other.
@@ -106,25 +101,13 @@ fn shift(wires: Wires, marks: [u16; 128], mut latent: Latent, goal: usize, x: u3
     }
 }
 
-fn outcome(latent: Latent, rest: Rest, group: [u8; 16], left: u32) -> Moved
-    ensures { result ≡ record { latent = latent; rest = rest; group = group; left = left } }
-{
-    Moved {
-        latent,
-        rest,
-        group,
-        left,
-    }
-}
-
 // Moves surplus to deficits until none is left or no route is.
 pub fn reroute(wires: Wires, mut latent: Latent, mut rest: Rest) -> Moved
     requires { Reroutable wires latent rest }
     ensures { Reroutes wires latent rest result }
 {
     let mut row = roles(wires.buses, rest);
-    let surplus = rest.surplus;
-    let mut left = sum(wires.buses, surplus);
+    let mut left = sum(wires.buses, rest.surplus);
     while left > 0 {
         let work = Work {
             marks: [0u16; 128],
@@ -132,42 +115,46 @@ pub fn reroute(wires: Wires, mut latent: Latent, mut rest: Rest) -> Moved
             latent,
         };
         let found = search::explore(wires, work, row);
-        let answer = found.answer;
         latent = found.work.latent;
-        let Search::Route(goal, room, start) = answer else {
+        let Search::Route(goal, room, start) = found.answer else {
             let group = found.group;
-            return outcome(latent, rest, group, left);
+            return Moved {
+                latent,
+                rest,
+                group,
+                left,
+            };
         };
-        let marks = found.work.marks;
         let s = rest.surplus[start];
         let t = rest.deficit[goal];
-        let x = smaller(room, smaller(s, t));
-        latent = shift(wires, marks, latent, goal, x);
+        let x = room.min(s).min(t);
+        latent = shift(wires, found.work.marks, latent, goal, x);
         rest.surplus[start] = s - x;
         rest.deficit[goal] = t - x;
         row[start] = role(s - x, 0);
         row[goal] = role(0, t - x);
         left -= x;
     }
-    outcome(latent, rest, [0u8; 16], left)
+    Moved {
+        latent,
+        rest,
+        group: [0u8; 16],
+        left,
+    }
 }
 
 fn judge(moved: Moved) -> Judgement
     ensures { Judged moved result }
 {
     let latent = moved.latent;
+    let excess = moved.left;
     let group = moved.group;
-    let left = moved.left;
-    let verdict = if left == 0 {
-        Verdict::Carries
+    let short = if excess == 0 {
+        None
     } else {
-        Verdict::Short { excess: left }
+        Some(Shortfall { excess, group })
     };
-    Judgement {
-        verdict,
-        latent,
-        group,
-    }
+    Judgement { latent, short }
 }
 
 // A flow that the network carries, or by how much it is short, and the smallest group that is short by so much.

@@ -1,8 +1,7 @@
 -- What `bring_back` promises.
+use Rattle.answer.specs.declared.Refusal.TheVariants.{AlreadyIn}
 use Rattle.std.specs.Prelude.{◌≡◌, List, ◌∷◌, ℕ, length, replicate}
-use Rattle.answer.specs.declared.Outcome.{Outcome}
-use Rattle.answer.specs.declared.Outcome.TheVariants.{Accepted}
-use Rattle.answer.specs.declared.Answer.{Answer}
+use Rattle.answer.specs.Answer.{Answer, Accepted}
 use Rattle.bits.specs.Field.{set_bit}
 use Rattle.layout.specs.Layout.{status_bit}
 use Rattle.layout.specs.Check.{check_of}
@@ -14,8 +13,8 @@ use Rattle.state.specs.Call.{Ends}
 use Rattle.switch.specs.Check.{branch_check, branch_numbers}
 
 -- Refusals 21 and 1 to 8, then 9, then 17: already in service.
-abbrev pub back_check : ℕ → List ℕ → ℕ → ℕ → ℕ → Outcome
-back_check percent bs flows bytes b = branch_check percent bs flows bytes b 1 17
+abbrev pub back_check : ℕ → List ℕ → ℕ → ℕ → ℕ → Answer
+back_check percent bs flows bytes b = branch_check percent bs flows bytes b 1 AlreadyIn
 
 abbrev pub back_numbers : List ℕ
 back_numbers = 17 ∷ branch_numbers

@@ -7,18 +7,16 @@ ghost use Rattle.state.specs.Inside.{Listing};
 ghost use Rattle.restore.specs.Inside.{anew_if, anew_at};
 ghost use Rattle.restore.specs.Promise.{BackEnds};
 
-use answer::{Answer, Outcome};
+use answer::{Answer, Refusal};
 use search::Latent;
+use state::Survey;
 
 // Written anew: the branch itself, or by its record as it was lent.
 fn is_anew(rec: &[u8], branch: usize, k: usize) -> bool
     requires { length rec.now ≡ 52 }
     ensures { result ≡ anew_if rec.now branch k }
 {
-    if k == branch {
-        return true;
-    }
-    !record::carries(rec)
+    k == branch || !record::carries(rec)
 }
 
 // The bits of the records to be written anew, from the table as it was lent.
@@ -48,33 +46,34 @@ pub fn bring_back(
 ) -> Answer
     ensures { BackEnds percent branch (lent book.old flow.now table.old) (lent book.new flow.now table.new) result }
 {
-    let found = switch::check(percent, book, flow.len(), table.len(), branch, 1, 17);
-    let Outcome::Accepted = found else {
-        return answer::answer_with(found);
-    };
-    let lent = state::survey_lent(percent, book, flow);
-    let fits = lent.fits;
-    if !fits {
-        return answer::answer_with(answer::refuse(11));
-    }
-    let wires = lent.wires;
-    let loss = lent.loss;
+    switch::check(
+        percent,
+        book,
+        flow.len(),
+        table.len(),
+        branch,
+        1,
+        Refusal::AlreadyIn,
+    )?;
+    let lent = state::survey_lent(percent, book, flow).ok_or(Refusal::FlowUnfit)?;
+    let Survey {
+        wires,
+        served,
+        loss,
+        live,
+        brief,
+        latent,
+    } = lent;
     let kw = loss[branch].0;
-    let serving = lent.served;
-    let live = lent.live;
-    let brief = lent.brief;
-    let latent = lent.latent;
-    let raised = state::raise(wires.branches, live, brief, latent);
-    let ahead = raised.ahead;
-    let back = raised.back;
-    let served = switch::served_with(serving, branch, true);
-    let briefs = switch::kw_with(brief, branch, kw);
+    let Latent { ahead, back } = state::raise(wires.branches, live, brief, latent);
+    let served = switch::with(served, branch, true);
+    let briefs = switch::with(brief, branch, kw);
     let left = Latent {
-        ahead: switch::kw_with(ahead, branch, kw),
-        back: switch::kw_with(back, branch, kw),
+        ahead: switch::with(ahead, branch, kw),
+        back: switch::with(back, branch, kw),
     };
     let listed = anew(table, wires.branches, branch);
     state::rewrite(table, wires, served, briefs, left, listed);
     layout::set_status(book, branch, 1);
-    answer::answer_with(Outcome::Accepted)
+    Ok(())
 }

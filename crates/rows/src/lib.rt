@@ -15,5 +15,5 @@ pub fn two(row: &[u8], at: usize) -> usize
     requires { at + 2 ≤ length row.now }
     ensures { (result ≡ two_at row.now at) × (result < 65536) }
 {
-    wide(row[at]) * 256 + wide(row[at + 1])
+    usize::from(row[at]) * 256 + usize::from(row[at + 1])
 }

@@ -5,10 +5,7 @@ use native.Mathlib.Omega.{arith}
 use lib.ListN.{length}
 use Rattle.rows.specs.Row.{member}
 use Rattle.rows.specs.Sum.{Group}
-use Rattle.answer.specs.declared.Answer.{Answer}
-use Rattle.answer.specs.declared.Outcome.{Outcome}
-use Rattle.answer.specs.declared.Outcome.TheVariants.{Accepted}
-use Rattle.answer.specs.Answer.{number_of}
+use Rattle.answer.specs.Answer.{Answer, Accepted, number_of}
 use Rattle.answer.proofs.Numbers.{said_is}
 use Rattle.verdict.specs.Case.{Posed, on}
 use Rattle.verdict.specs.Excess.{Overload}
@@ -32,15 +29,15 @@ never_over percent {before} {after} c x v S o =
     let posed = posed_passed (passed _ _ _ c) in
     never_overload (case_in percent before.book) v S (fits_none (case_in percent before.book) (on after.flow) posed x.table_true.fits) o
 
-pub number_zero : {o : Outcome} → o ≡ Accepted → number_of o ≡ 0
+pub number_zero : {o : Answer} → o ≡ Accepted → number_of o ≡ 0
 number_zero e = ap number_of e
 
-pub accepted_screen : {percent : ℕ} {before after : Lent} {r : Answer} → ScreenEnds percent before after r → r.outcome ≡ Accepted
+pub accepted_screen : {percent : ℕ} {before after : Lent} {r : Answer} → ScreenEnds percent before after r → r ≡ Accepted
     → Done percent before after
 unfolding member
 accepted_screen {percent} {before} (refuses n a k) e =
-    let is = said_is lent_numbers (screen_check percent before) refl refl (lent_gives _ _ _ _) a in
-    absurd (n (sym (ap (λ (x : Answer). x.outcome) is) ∙ e))
+    let is = said_is lent_numbers (screen_check percent before) refl (lent_gives _ _ _ _) a in
+    absurd (n (sym (ap (λ (x : Answer). x) is) ∙ e))
 accepted_screen (overloads c o k) e = absurd (omega (arith, o.answer.number_is, number_zero e))
 accepted_screen {before = before} (accepts c a s) e =
     let p = passed before.book (length before.flow) (length before.table) c in

@@ -1,2 +1,3 @@
 pub mod ScreenEnd
+pub mod Screening
 pub mod AcceptedScreen

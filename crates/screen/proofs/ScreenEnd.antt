@@ -9,25 +9,16 @@ use lib.ListN.{length, replicate}
 use Rattle.rows.specs.Row.{every, member, headed}
 use Rattle.rows.specs.Bit.{bit_at, has}
 use Rattle.rows.proofs.Row.{every_at, headed_rest, length_headed}
-use Rattle.answer.specs.Answer.{Proper, bare}
-use Rattle.answer.specs.declared.Outcome.{Outcome}
-use Rattle.answer.specs.declared.Outcome.TheVariants.{Accepted}
-use Rattle.answer.specs.declared.Answer.{Answer}
+use Rattle.answer.specs.Answer.{Answer, Accepted}
 use Rattle.answer.proofs.Said.{said_accepted}
 use Rattle.answer.proofs.Numbers.{gives_said}
 use Rattle.verdict.specs.Case.{on, Fits}
-use Rattle.verdict.specs.Update.{Lent}
 use Rattle.state.specs.Case.{case_in}
 use Rattle.state.specs.Call.{lent_check, lent_numbers, lent, OverloadSaid}
 use Rattle.state.specs.Inside.{Rewritten}
 use Rattle.state.proofs.Checked.{lent_gives, passed}
 use Rattle.state.proofs.Status.{branches_of}
 use Rattle.screen.specs.Promise.{ScreenEnds, refuses, overloads, accepts}
-
-pub screen_proper : {percent : ℕ} {before after : Lent} {r : Answer} → ScreenEnds percent before after r → Proper r.outcome
-screen_proper (refuses n a k) = a.proper
-screen_proper (overloads c o k) = o.answer.proper
-screen_proper (accepts c a s) = a.proper
 
 -- Every branch is listed.
 abbrev all_listed : List ℕ
@@ -41,20 +32,20 @@ is_listed_lem : (k : ℕ) → k < 256 → has all_listed k ≡ true
 is_listed_lem k u = every_at (has all_listed) 256 all_test k u
 
 module _ (percent : ℕ) (bs : List ℕ) (flow : List ℤ) (table : List ℕ) where
-  abbrev checks : Outcome
+  abbrev checks : Answer
   checks = lent_check percent bs (length flow) (length table)
 
-  pub by_check : (o : Outcome) {r : Answer} → o ≡ checks → (o ≡ Accepted → ⊥) → r ≡ bare o
+  pub by_check : (o : Answer) {r : Answer} → o ≡ checks → (o ≡ Accepted → ⊥) → r ≡ o
       → ScreenEnds percent (lent bs flow table) (lent bs flow table) r
   unfolding member
   by_check o e n a =
-      refuses (λ q. n (e ∙ q)) (gives_said lent_numbers checks refl refl (lent_gives percent bs (length flow) (length table)) (a ∙ ap bare e)) refl
+      refuses (λ q. n (e ∙ q)) (gives_said lent_numbers checks refl (lent_gives percent bs (length flow) (length table)) (a ∙ e)) refl
 
   module _ (ok : checks ≡ Accepted) where
     pub by_overload : {r : Answer} → OverloadSaid (case_in percent bs) r → ScreenEnds percent (lent bs flow table) (lent bs flow table) r
     by_overload o = overloads ok o refl
 
-    pub by_table : {n : ℕ} (f : ℕ → ℤ) {served : List Bool} {flow' : List ℤ} {table' : List ℕ} {losses : ℕ} {r : Answer} → r ≡ bare Accepted
+    pub by_table : {n : ℕ} (f : ℕ → ℤ) {served : List Bool} {flow' : List ℤ} {table' : List ℕ} {losses : ℕ} {r : Answer} → r ≡ Accepted
         → n ≡ (case_in percent bs).branches
         → n ≤ length flow → flow' ≡ headed n f flow → Fits (case_in percent bs) (case_in percent bs).limit (on flow')
         → Rewritten (case_in percent bs) (on flow') served all_listed table table' losses → ((case_in percent bs).branches ≤ 256)

@@ -1,9 +1,6 @@
 -- What `screen` promises.
 use Rattle.std.specs.Prelude.{◌≡◌, ℕ, length}
-use Rattle.answer.specs.Answer.{SaidBy}
-use Rattle.answer.specs.declared.Outcome.{Outcome}
-use Rattle.answer.specs.declared.Outcome.TheVariants.{Accepted}
-use Rattle.answer.specs.declared.Answer.{Answer}
+use Rattle.answer.specs.Answer.{Answer, Accepted, SaidBy}
 use Rattle.verdict.specs.Case.{Case}
 use Rattle.verdict.specs.Record.{TrueTable}
 use Rattle.verdict.specs.Update.{Lent, Beyond}
@@ -16,7 +13,7 @@ pub record Screened (C : Case) (before after : Lent) : Type 0 where
   pub book_kept : after.book ≡ before.book
   pub beyond : Beyond C before after
 
-abbrev pub screen_check : ℕ → Lent → Outcome
+abbrev pub screen_check : ℕ → Lent → Answer
 screen_check percent l = lent_check percent l.book (length l.flow) (length l.table)
 
 pub data ScreenEnds (percent : ℕ) (before after : Lent) (r : Answer) : Type 0 where

@@ -4,37 +4,30 @@
 ghost use Rattle.state.specs.Call.{lent};
 ghost use Rattle.screen.specs.Promise.{ScreenEnds};
 
-use answer::{Answer, Outcome};
-use reroute::Verdict;
+use answer::Answer;
+use state::Plan;
 
 // Refusals 21, 1 to 8 and 12; accepted, a flow within the normal limits, and the record of every branch's loss, judged by the second.
 pub fn screen(percent: u32, book: &[u8], flow: &mut [i32], table: &mut [u8]) -> Answer
     ensures { ScreenEnds percent (lent book.now flow.old table.old) (lent book.now flow.new table.new) result }
 {
-    let found = state::check_lent(percent, book, flow.len(), table.len());
-    let Outcome::Accepted = found else {
-        return answer::answer_with(found);
-    };
-    let plan = state::prepare(book::rows_of(percent, book));
-    let wires = plan.wires;
-    let live = plan.live;
-    let brief = plan.brief;
-    let gain = plan.gain;
-    let load = plan.load;
+    state::check_lent(percent, book, flow.len(), table.len())?;
+    let Plan {
+        wires,
+        served,
+        live,
+        brief,
+        gain,
+        load,
+    } = state::prepare(book::rows_of(percent, book));
     let base = reroute::base_flow(wires, live, gain, load);
-    let verdict = base.verdict;
-    if let Verdict::Short { excess } = verdict {
-        let group = base.group;
-        return Answer {
-            outcome: Outcome::Overloaded(excess),
-            group,
-        };
+    if let Some(lack) = base.short {
+        return Err(state::overloaded(lack));
     }
     let latent = base.latent;
     let ahead = latent.ahead;
-    let served = plan.served;
     state::fill_flow(flow, wires.branches, live, ahead);
     let raised = state::raise(wires.branches, live, brief, latent);
     state::rewrite(table, wires, served, brief, raised, [255u8; 32]);
-    answer::answer_with(Outcome::Accepted)
+    Ok(())
 }

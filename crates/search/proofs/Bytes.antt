@@ -3,13 +3,14 @@ use mathlib.Core.Path.{◌≡◌, refl, sym, ap, ◌∙◌}
 use mathlib.Core.List.{List}
 use Prim.Native.Nat.{ℕ, zero, suc, ◌+◌, ◌-◌, ◌*◌, ◌/◌, ◌%◌, ◌^◌, ◌<◌, ◌≤◌}
 use native.Mathlib.Omega.{arith}
-use native.Mathlib.Nat.{pow-le-pow_right, two-pow-succ}
+use native.Mathlib.Nat.{two-pow-succ}
 use native.Mathlib.Numerals.{add-one}
 use borrow.Author.Count.{below_more}
 use borrow.Author.Tests.{lt-ltb}
 use lib.Dec.{eqb, ltb}
-use lib.ListN.{length, set, replicate, length-set}
-use lib.Seq.{get_or-set_same, get_or-set_other}
+use lib.ListN.{length, take, drop}
+use lib.Seq.{get_or-take, get_or-drop}
+use mir.Val.{bool_byte}
 use lib.Pow.{shr-shr}
 use Rattle.rows.specs.Row.{nth}
 use Rattle.rows.specs.Bit.{bit_at, has}
@@ -20,13 +21,15 @@ flag_below : (x : ℕ) → flag_of x < 2
 flag_below zero = omega arith
 flag_below (suc x) = omega arith
 
-pub flag_zero : (x : ℕ) → x ≤ 0 → 0 ≡ flag_of x
-flag_zero zero h = refl
-flag_zero (suc x) h = absurd (omega arith)
+flag_is : (x : ℕ) → bool_byte (ltb 0 x) ≡ flag_of x
+flag_is zero = refl
+flag_is (suc x) = rw (lt-ltb 0 (suc x) (omega arith)) refl
 
-pub flag_one : (x : ℕ) → 0 < x → 1 ≡ flag_of x
-flag_one zero h = absurd (omega arith)
-flag_one (suc x) h = refl
+-- A mark out of the eight from `at` on.
+pub flag_at : (m : List ℕ) (at i : ℕ) → i < 8 → bool_byte (ltb 0 (nth (take (at + 8 - at) (drop at m)) i)) ≡ flag_of (nth m (at + i))
+flag_at m at i h =
+    let e : at + 8 - at ≡ 8 = omega arith in
+    rw (e, get_or-take 8 (drop at m) i 0 h, get_or-drop at m i 0) (flag_is (nth m (at + i)))
 
 flag_marked : (x : ℕ) → eqb (flag_of x) 1 ≡ ltb 0 x
 flag_marked zero = refl
@@ -45,16 +48,7 @@ pub record FirstBits (m : List ℕ) (at x i : ℕ) : Type 0 where
   pub low : x < 2 ^ i
   pub bit : (t : ℕ) → t < i → x / 2 ^ (i - 1 - t) % 2 ≡ flag_of (nth m (at + t))
 
-pub first_bits_none : {m : List ℕ} {at : ℕ} → FirstBits m at 0 0
-first_bits_none = record { within = omega arith; low = omega arith; bit = λ t l. absurd (omega arith) }
-
 module _ {m : List ℕ} {at x i : ℕ} (P : FirstBits m at x i) (l : i < 8) where
-  pub first_bits_room : x < 128
-  first_bits_room = omega (arith, P.low, pow-le-pow_right {n = 2} (omega arith) {i = i} {j = 7} (omega arith))
-
-  pub first_bits_fits : {b : ℕ} → b ≡ flag_of (nth m (at + i)) → x * 2 + b < 256
-  first_bits_fits e = omega (arith, first_bits_room, flag_below (nth m (at + i)))
-
   pub first_bits_more : {b : ℕ} → b ≡ flag_of (nth m (at + i)) → FirstBits m at (x * 2 + b) (i + 1)
   first_bits_more {b} e =
       record {
@@ -74,32 +68,11 @@ module _ {m : List ℕ} {at x i : ℕ} (P : FirstBits m at x i) (l : i < 8) wher
       new : (x * 2 + b) / 2 ^ (i + 1 - 1 - i) % 2 ≡ flag_of (nth m (at + i))
       new = let s : i + 1 - 1 - i ≡ 0 = omega arith in rw s (omega (arith, two))
 
-pub first_bits_end : {m : List ℕ} {at x i : ℕ} → FirstBits m at x i → 8 ≤ i → Byte m at x
-first_bits_end {i = i} P l =
-    let e : i ≡ 8 = omega (arith, P.within) in
-    record { low = rw e at P.low; bit = λ t h. rw e at (P.bit t (omega arith)) }
-
 -- The first j bytes are filled.
 pub record FirstBytes (m g : List ℕ) (j : ℕ) : Type 0 where
   pub within : j ≤ 16
   pub long : length g ≡ 16
   pub bytes : (i : ℕ) → i < j → Byte m (8 * i) (nth g i)
-
-pub first_bytes_none : {m : List ℕ} → FirstBytes m (replicate 16 0) 0
-first_bytes_none = record { within = omega arith; long = refl; bytes = λ i l. absurd (omega arith) }
-
-pub first_bytes_more : {m g : List ℕ} {j x : ℕ} → FirstBytes m g j → j < 16 → Byte m (8 * j) x → FirstBytes m (set g j x) (j + 1)
-first_bytes_more {m} {g} {j} {x} F l B =
-    record {
-      within = omega arith;
-      long = length-set g j x ∙ F.long;
-      bytes =
-          below_more
-          (λ (i : ℕ). Byte m (8 * i) (nth (set g j x) i))
-          j
-          (λ i h. rw (get_or-set_other g j i x 0 (omega arith)) (F.bytes i h))
-          (rw (get_or-set_same g j x 0 (omega (arith, F.long))) B);
-    }
 
 pub first_bytes_end : {m g : List ℕ} {j : ℕ} → FirstBytes m g j → 16 ≤ j → Bits m g
 unfolding bit_at

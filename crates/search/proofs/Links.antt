@@ -9,7 +9,7 @@ use native.Mathlib.Decide.{ℕ_discrete}
 use lib.ListN.{length, set, replicate, length-set, get_or-replicate}
 use lib.Seq.{get_or-set_same, get_or-set_other}
 use Rattle.rows.specs.Row.{nth}
-use Rattle.search.specs.InsideLinks.{Linkable, Touches, Met, at_first, at_second, Least, Linked, Wiring}
+use Rattle.search.specs.InsideLinks.{Linkable, Touches, Met, at_first, at_second, Least, Linked}
 use Rattle.search.specs.declared.Wires.{Wires}
 
 -- The branches from k on are linked: h is `head`, x is `after`, z is `far`.
@@ -47,24 +47,6 @@ chained_none {buses} {n} {f} {s} w =
       next_second = λ j a h. absurd (omega arith);
       far_first = λ j a h. absurd (omega arith);
       far_second = λ j a h. absurd (omega arith);
-    }
-
-pub chained_end : {buses n : ℕ} {f s h x z : List ℕ} {k : ℕ} → Chained buses n f s h x z k → k ≤ 0
-    → Wiring buses n f s (record { buses = buses; branches = n; first = f; second = s; head = h; after = x; far = z })
-chained_end C e =
-    record {
-      same_buses = refl;
-      same_branches = refl;
-      same_first = refl;
-      same_second = refl;
-      linked = record {
-        wired = C.wired;
-        lowest = λ v l. let L = C.lowest v l in record { top = L.top; above = omega arith; under = L.under; met = L.met; none = λ j a. L.none j (omega arith) };
-        next_first = λ j l. C.next_first j (omega arith) l;
-        next_second = λ j l. C.next_second j (omega arith) l;
-        far_first = λ j l. C.far_first j (omega arith) l;
-        far_second = λ j l. C.far_second j (omega arith) l;
-      };
     }
 
 -- A row of sides, with y stored at the first side of branch k and z at its second.
@@ -191,12 +173,6 @@ module _ (buses n : ℕ) (f s h x z : List ℕ) (k : ℕ) (C : Chained buses n f
 module _ {buses n : ℕ} {f s h x z : List ℕ} {k : ℕ} (C : Chained buses n f s h x z k) (pos : 0 < k) where
   fallen : Chained buses n f s h x z (k - 1 + 1)
   fallen = subst (λ (j : ℕ). Chained buses n f s h x z j) (omega arith) C
-
-  pub chain_first : nth f (k - 1) < 128
-  chain_first = omega (arith, first_bus buses n f s h x z (k - 1) fallen, C.long)
-
-  pub chain_second : nth s (k - 1) < 128
-  chain_second = omega (arith, second_bus buses n f s h x z (k - 1) fallen, C.long)
 
   pub chain_falls : Chained buses n f s (set (set h (nth f (k - 1)) (k - 1)) (nth s (k - 1)) (k - 1 + 256)) (set (set x (k - 1) (nth h (nth f (k - 1)))) (k - 1 + 256) (nth h (nth s (k - 1)))) (set (set z (k - 1) (nth s (k - 1))) (k - 1 + 256) (nth f (k - 1))) (k - 1)
   chain_falls = chained_more buses n f s h x z (k - 1) fallen

@@ -64,30 +64,9 @@ scan_start {W} latent {roles} K S =
       closed = λ p k c v d. absurd (omega arith);
     }
 
-module _ {W : Wires} {latent : Latent} {roles m q w o : List ℕ} {h t : ℕ} (S : Scan W latent roles m q w o h t) (l : h < t) where
-  pub here_bus : nth q h < 128
-  here_bus = omega (arith, S.tree.bus h l, S.linked.wired.few)
-
-  pub turn_start : Turn W latent roles m q w o h t (nth q h) (nth w (nth q h)) (nth W.head (nth q h))
-  turn_start =
-      let L = S.linked.lowest (nth q h) (S.tree.bus h l) in
-      record {
-        scan = S;
-        below = l;
-        is_here = refl;
-        is_low = refl;
-        top = L.top;
-        under = L.under;
-        met = L.met;
-        done = λ j c v d x. absurd (L.none j (omega arith) d x.below (arc_touches (scene W latent roles) j c (nth q h) v x));
-      }
-
 module _ {W : Wires} {latent : Latent} {roles m q w o : List ℕ} {h t here low side : ℕ} (R : Turn W latent roles m q w o h t here low side) where
   here_marked : 0 < nth m here
   here_marked = subst (λ (v : ℕ). 0 < nth m v) R.is_here (positive (scene W latent roles) m q w o h (R.scan.tree.place h R.below))
-
-  pub here_origin : nth o here < 128
-  here_origin = omega (arith, (origin_of (scene W latent roles) m q w o t R.scan.tree here here_marked).bus, R.scan.linked.wired.few)
 
   module _ (l : side < 512) where
     pub turn_next : Least W.branches W.first W.second (side % 256 + 1) here (nth W.after side)

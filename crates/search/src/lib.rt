@@ -4,8 +4,8 @@
 
 ghost use Rattle.search.specs.InsideLinks.{Linkable, Wiring};
 ghost use Rattle.search.specs.InsideSearch.{Bits, Searchable, Searched};
-ghost use Rattle.search.specs.Inside.{Blank, Seeded, flag_of, Byte, Packed};
-ghost use Rattle.std.specs.Prelude.{◌<◌, ◌≤◌, ◌+◌, min, ◌≡◌, cond, ltb};
+ghost use Rattle.search.specs.Inside.{Blank, Seeded, Byte, Packed};
+ghost use Rattle.std.specs.Prelude.{◌<◌, ◌≤◌, ◌+◌, ◌≡◌, cond, ltb};
 
 // The ends of the branches, and links that give the branches of a bus in rising number.
 // A link is a side: k is branch k met at its first end, 256 + k is branch k met at its second end, 512 is none.
@@ -52,12 +52,6 @@ pub struct Found {
     pub work: Work,
 }
 
-pub fn smaller(x: u32, y: u32) -> u32
-    ensures { result ≡ min x y }
-{
-    if x < y { x } else { y }
-}
-
 // From the highest branch down, so that `head` always holds the next side at its bus.
 pub fn link(buses: usize, branches: usize, first: [u8; 256], second: [u8; 256]) -> Wires
     requires { Linkable buses branches first second }
@@ -66,9 +60,7 @@ pub fn link(buses: usize, branches: usize, first: [u8; 256], second: [u8; 256]) 
     let mut head = [512u16; 128];
     let mut after = [512u16; 512];
     let mut far = [0u8; 512];
-    let mut k = branches;
-    while k > 0 {
-        k -= 1;
+    for k in (0..branches).rev() {
         let a = first[k] as usize;
         let b = second[k] as usize;
         after[k] = head[a];
@@ -113,15 +105,13 @@ fn seed(buses: usize, roles: [u8; 128], mut marks: [u16; 128], mut queue: [u8; 1
 {
     let mut origin = [0u8; 128];
     let mut count: usize = 0;
-    let mut v: usize = 0;
-    while v < buses {
+    for v in 0..buses {
         if roles[v] == 1 {
             marks[v] = 1;
             queue[count] = v as u8;
             origin[v] = v as u8;
             count += 1;
         }
-        v += 1;
     }
     Grown {
         marks,
@@ -132,22 +122,14 @@ fn seed(buses: usize, roles: [u8; 128], mut marks: [u16; 128], mut queue: [u8; 1
     }
 }
 
-fn flag(mark: u16) -> u8
-    ensures { result ≡ flag_of mark }
-{
-    if mark > 0 { 1 } else { 0 }
-}
-
 // Eight marks as the bits of a byte, the first of them the highest.
 fn byte(marks: [u16; 128], at: usize) -> u8
     requires { at + 8 ≤ 128 }
     ensures { Byte marks at result }
 {
     let mut x: u8 = 0;
-    let mut i: usize = 0;
-    while i < 8 {
-        x = x * 2 + flag(marks[at + i]);
-        i += 1;
+    for mark in &marks[at..at + 8] {
+        x = x * 2 + u8::from(*mark > 0);
     }
     x
 }
@@ -156,10 +138,8 @@ fn bits(marks: [u16; 128]) -> [u8; 16]
     ensures { Bits marks result }
 {
     let mut group = [0u8; 16];
-    let mut j: usize = 0;
-    while j < 16 {
+    for j in 0..16 {
         group[j] = byte(marks, 8 * j);
-        j += 1;
     }
     group
 }
@@ -184,15 +164,13 @@ fn packed(answer: Search, mut work: Work, tree: Grown) -> Found
     }
 }
 
-// From the buses of role 1, over latent capacity, to the first bus of role 2.
+// From the buses of role 1, over latent capacity, to the first bus of role 2. Roles are bytes and no enum: `Searchable` asks nothing of them, and any
+// other byte is no role.
 pub fn explore(wires: Wires, work: Work, roles: [u8; 128]) -> Found
     requires { Searchable wires work }
     ensures { Searched wires work roles result }
 {
-    let marks = work.marks;
-    let queue = work.queue;
-    let latent = work.latent;
-    let mut tree = seed(wires.buses, roles, marks, queue);
+    let mut tree = seed(wires.buses, roles, work.marks, work.queue);
     let mut at: usize = 0;
     let answer = 'scan: loop {
         if at >= tree.count {
@@ -204,9 +182,9 @@ pub fn explore(wires: Wires, work: Work, roles: [u8; 128]) -> Found
         while side < 512 {
             let k = side % 256;
             let to = wires.far[side] as usize;
-            let spare = away(side, latent.ahead[k], latent.back[k]);
+            let spare = away(side, work.latent.ahead[k], work.latent.back[k]);
             if spare > 0 && tree.marks[to] == 0 {
-                let least = smaller(low, spare);
+                let least = low.min(spare);
                 let start = tree.origin[here] as usize;
                 let tail = tree.count;
                 tree.marks[to] = (k + 2) as u16;

@@ -1,11 +1,11 @@
 -- The rows of a case are its network: what the base flow asks for; and what the kernel's word on it says, an overload or a flow that fits.
 use mathlib.Core.Path.{◌≡◌, refl, sym, ap, ◌∙◌, subst}
-use mathlib.Core.Bool.{Bool, false}
+use mathlib.Core.Bool.{Bool}
 use mathlib.Core.List.{List}
 use Prim.Native.Nat.{ℕ, ◌+◌, ◌≤◌, ◌<◌}
 use native.Mathlib.Omega.{arith}
 use lib.IntN.{ℤ, pos, ◌-ℤ◌}
-use lib.ListN.{length}
+use Rattle.std.specs.Prelude.{Option, None, Some}
 use Rattle.rows.specs.Row.{nth, headed}
 use Rattle.rows.specs.Bit.{has}
 use Rattle.rows.proofs.Row.{headed_at}
@@ -16,10 +16,9 @@ use Rattle.quantity.proofs.Parts.{size_parts, one_side, minus_parts}
 use Rattle.grid.proofs.Net.{Net}
 use Rattle.search.specs.declared.Wires.{Wires}
 use Rattle.reroute.specs.InsideMoves.{network, carried, both_ways}
-use Rattle.reroute.specs.InsideVerdicts.{Carrying, Shortage, Says, Basic, Based}
+use Rattle.reroute.specs.InsideVerdicts.{Carrying, Shortage, Says, Grouped, Basic, Based}
 use Rattle.reroute.specs.declared.Judgement.{Judgement}
-use Rattle.reroute.specs.declared.Verdict.{Verdict}
-use Rattle.reroute.specs.declared.Verdict.TheVariants.{Carries, Short}
+use Rattle.reroute.specs.declared.Shortfall.{Shortfall}
 use Rattle.verdict.specs.Case.{Case, on}
 use Rattle.verdict.proofs.Plain.{flow_of, base, overload_plain}
 use Rattle.verdict.proofs.Loss.{Level}
@@ -32,9 +31,8 @@ use Rattle.state.proofs.TrueRecords.{group_bytes_lem, clipped, held_limit, held_
 -- The kernel's word on a case: a flow that it carries, or by how much which group is short.
 pub record Answered (C : Case) (W : Wires) (live : List ℕ) (r : Judgement) : Type 0 where
   pub kept : (k : ℕ) → k < W.branches → both_ways r.latent k ≡ nth live k + nth live k
-  pub says : Says (base C) (carried (nth live) r.latent.ahead) (has r.group) r.verdict
-  pub beyond : (v : ℕ) → W.buses ≤ v → v < 128 → has r.group v ≡ false
-  pub bytes : (j : ℕ) → j < 16 → nth r.group j < 256
+  pub says : Says (base C) (carried (nth live) r.latent.ahead) r.short
+  pub grouped : (s : Shortfall) → r.short ≡ Some s → Grouped W.buses s.group
 
 module _ (C : Case) (level : Level C) (W : Wires) (served : List Bool) (live gain load : List ℕ) (h : Held C W served live)
     (gain_is : nth gain ≡ (λ i. pos_part (C.injection i))) (load_is : nth load ≡ (λ i. neg_part (C.injection i))) where
@@ -59,30 +57,30 @@ module _ (C : Case) (level : Level C) (W : Wires) (served : List Bool) (live gai
   pub based_answer : (r : Judgement) → Based W live gain load r → Answered C W live r
   based_answer r d = record {
     kept = λ k u. d.kept k;
-    says = subst (λ (N : Net). Says N (carried (nth live) r.latent.ahead) (has r.group) r.verdict) base_net d.says;
-    beyond = d.beyond;
-    bytes = d.bytes;
+    says = subst (λ (N : Net). Says N (carried (nth live) r.latent.ahead) r.short) base_net d.says;
+    grouped = d.grouped;
   }
 
 module _ (C : Case) (W : Wires) (served : List Bool) (live : List ℕ) (h : Held C W served live) (r : Judgement)
     (d : Answered C W live r) where
-  word : (v : Verdict) → r.verdict ≡ v → Says (base C) (carried (nth live) r.latent.ahead) (has r.group) v
-  word v e = subst (λ (w : Verdict). Says (base C) (carried (nth live) r.latent.ahead) (has r.group) w) e d.says
+  word : (o : Option Shortfall) → r.short ≡ o → Says (base C) (carried (nth live) r.latent.ahead) o
+  word o e = subst (λ (p : Option Shortfall). Says (base C) (carried (nth live) r.latent.ahead) p) e d.says
 
   -- Short: the book is refused with its base excess and the smallest group reaching it.
-  pub overload : (e : ℕ) → r.verdict ≡ Short e → length r.group ≡ 16 → OverloadSaid C (overloaded e r.group)
-  overload e v l =
-      let c : Shortage (base C) (has r.group) e = word (Short e) v in
+  pub overload : (x : Shortfall) → r.short ≡ Some x → OverloadSaid C (overloaded x.excess x.group)
+  overload x v =
+      let c : Shortage (base C) (has x.group) x.excess = word (Some x) v in
+      let g = d.grouped x v in
       record {
-        shortage = e;
-        group = r.group;
-        answer = said_overloaded e r.group;
-        long = l;
-        bytes = group_bytes_lem r.group l d.bytes;
-        overload = (overload_plain C e (has r.group)).1 (record {
+        shortage = x.excess;
+        group = x.group;
+        answer = said_overloaded x.excess x.group;
+        long = g.long;
+        bytes = group_bytes_lem x.group g.long g.bytes;
+        overload = (overload_plain C x.excess (has x.group)).1 (record {
           above = c.some;
           smallest = c.smallest;
-          beyond = clipped C.buses r.group l (λ i u. d.beyond i (rw h.buses_are u));
+          beyond = clipped C.buses x.group g.long (λ i u. g.beyond i (rw h.buses_are u));
         });
       }
 
@@ -94,13 +92,13 @@ module _ (C : Case) (W : Wires) (served : List Bool) (live : List ℕ) (h : Held
   }
 
   -- Carries: the flow that the latent capacities leave fits, and they are its latent capacities.
-  pub state_left : (flow₀ flow : List ℤ) → r.verdict ≡ Carries
+  pub state_left : (flow₀ flow : List ℤ) → r.short ≡ None
       → flow ≡ headed W.branches (λ k. pos (nth live k) -ℤ pos (nth r.latent.ahead k)) flow₀
       → State C (on flow) W served live r.latent
   state_left flow₀ flow v w =
       let e : (k : ℕ) → k < W.branches → on flow k ≡ pos (nth live k) -ℤ pos (nth r.latent.ahead k) =
       λ k u. ap (λ (l : List ℤ). on l k) w ∙ headed_at W.branches (λ j. pos (nth live j) -ℤ pos (nth r.latent.ahead j)) flow₀ k (pos 0) u in
-      let c : Carrying (base C) (carried (nth live) r.latent.ahead) = word Carries v in
+      let c : Carrying (base C) (carried (nth live) r.latent.ahead) = word None v in
       let at : (k : ℕ) → k < C.branches → on flow k ≡ pos (nth live k) -ℤ pos (nth r.latent.ahead k) = λ k u. e k (rw h.branches_are u) in
       let parts : (k : ℕ) → k < C.branches → nth r.latent.ahead k + pos_part (on flow k) ≡ nth live k + neg_part (on flow k) =
       λ k u. omega (arith, minus_parts (pos (nth live k)) (pos (nth r.latent.ahead k)), ap pos_part (at k u), ap neg_part (at k u)) in

@@ -7,11 +7,10 @@ use borrow.Author.Tests.{lt-ltb, le-ltb, ltb-false}
 use lib.Dec.{ltb}
 use Rattle.rows.specs.Row.{member}
 use Rattle.rows.proofs.Row.{or_true, either_false}
-use Rattle.answer.specs.Answer.{refusal, refuse_if, and_then}
-use Rattle.answer.specs.declared.Outcome.{Outcome}
-use Rattle.answer.specs.declared.Outcome.TheVariants.{Accepted}
+use Rattle.answer.specs.declared.Refusal.TheVariants.{TooShort, PercentOutside}
+use Rattle.answer.specs.Answer.{Answer, Accepted, and_then, refuse_if, refused}
 use Rattle.answer.proofs.Refusals.{past, past_both, stands}
-use Rattle.answer.proofs.Numbers.{Gives, plain, gives_if, gives_then, inside, gives_more}
+use Rattle.answer.proofs.Numbers.{Gives, gives_if, gives_then, inside, gives_more}
 use Rattle.quantity.specs.Rating.{percent_out}
 use Rattle.quantity.proofs.Limits.{full_at_most}
 use Rattle.layout.specs.Layout.{branches_in, book_of}
@@ -26,24 +25,24 @@ use Rattle.state.proofs.Opening.{posed}
 -- ---- Each way in which it ends.
 module _ (percent : ℕ) (bs : List ℕ) (flows bytes : ℕ) where
   -- Whatever the book.
-  pub by_percent : percent_out percent ≡ true → refusal 21 ≡ lent_check percent bs flows bytes
+  pub by_percent : percent_out percent ≡ true → refused PercentOutside ≡ lent_check percent bs flows bytes
   unfolding lent_check
   by_percent t = rw t refl
 
   module _ (in_range : percent_out percent ≡ false) where
-    pub by_book : (o : Outcome) → o ≡ check_of bs → (o ≡ Accepted → ⊥) → o ≡ lent_check percent bs flows bytes
+    pub by_book : (o : Answer) → o ≡ check_of bs → (o ≡ Accepted → ⊥) → o ≡ lent_check percent bs flows bytes
     unfolding lent_check
     by_book o e n = sym (rw (in_range, ← e) (stands o _ n))
 
     module _ (ok : check_of bs ≡ Accepted) where
-      by_room : (ltb flows (branches_in bs) || ltb bytes (52 * branches_in bs)) ≡ true → refusal 8 ≡ lent_check percent bs flows bytes
+      by_room : (ltb flows (branches_in bs) || ltb bytes (52 * branches_in bs)) ≡ true → refused TooShort ≡ lent_check percent bs flows bytes
       unfolding lent_check
       by_room t = rw (in_range, ok, t) refl
 
-      pub by_flow_room : flows < branches_in bs → refusal 8 ≡ lent_check percent bs flows bytes
+      pub by_flow_room : flows < branches_in bs → refused TooShort ≡ lent_check percent bs flows bytes
       by_flow_room l = by_room (rw (lt-ltb flows (branches_in bs) l) refl)
 
-      pub by_table_room : bytes < 52 * branches_in bs → refusal 8 ≡ lent_check percent bs flows bytes
+      pub by_table_room : bytes < 52 * branches_in bs → refused TooShort ≡ lent_check percent bs flows bytes
       by_table_room l = by_room (rw (lt-ltb bytes (52 * branches_in bs) l) (or_true (ltb flows (branches_in bs))))
 
 -- ---- Passed: a percentage within its range, an accepted book, and room for its counts.
@@ -60,9 +59,9 @@ module _ {percent : ℕ} (bs : List ℕ) (flows bytes : ℕ) where
   pub passed : lent_check percent bs flows bytes ≡ Accepted → Passed percent bs flows bytes
   unfolding lent_check
   passed e =
-      let i = past (percent_out percent) 21 _ e in
+      let i = past (percent_out percent) _ _ e in
       let k = past_both (check_of bs) _ i.1 in
-      let l = past (ltb flows (branches_in bs) || ltb bytes (52 * branches_in bs)) 8 Accepted k.1 in
+      let l = past (ltb flows (branches_in bs) || ltb bytes (52 * branches_in bs)) _ Accepted k.1 in
       let m = either_false (ltb flows (branches_in bs)) (ltb bytes (52 * branches_in bs)) l.0 in
       record {
         in_range = i.0;
@@ -78,15 +77,15 @@ module _ {percent : ℕ} (bs : List ℕ) (flows bytes : ℕ) where
 -- ---- Which numbers it gives.
 module _ (percent : ℕ) (bs : List ℕ) (flows bytes : ℕ) where
   -- Past the percentage.
-  rest_gives : (ns : List ℕ) → inside check_numbers ns ≡ true → plain 8 ns ≡ true
-      → Gives ns (and_then (check_of bs) (refuse_if (ltb flows (branches_in bs) || ltb bytes (52 * branches_in bs)) 8 Accepted))
+  rest_gives : (ns : List ℕ) → inside check_numbers ns ≡ true → member 8 ns ≡ true
+      → Gives ns (and_then (check_of bs) (refuse_if (ltb flows (branches_in bs) || ltb bytes (52 * branches_in bs)) TooShort Accepted))
   rest_gives ns i h =
       gives_then ns (check_of bs) _ (gives_more check_numbers ns (check_of bs) i (check_gives bs))
-      (gives_if ns (ltb flows (branches_in bs) || ltb bytes (52 * branches_in bs)) 8 Accepted h tt)
+      (gives_if ns (ltb flows (branches_in bs) || ltb bytes (52 * branches_in bs)) TooShort Accepted h tt)
 
   pub lent_gives : Gives lent_numbers (lent_check percent bs flows bytes)
   unfolding lent_check member inside
-  lent_gives = gives_if lent_numbers (percent_out percent) 21 _ refl (rest_gives lent_numbers refl refl)
+  lent_gives = gives_if lent_numbers (percent_out percent) PercentOutside _ refl (rest_gives lent_numbers refl refl)
 
   -- A percentage within its range is never refused.
   pub in_range_gives : percent_out percent ≡ false → Gives (8 ∷ check_numbers) (lent_check percent bs flows bytes)

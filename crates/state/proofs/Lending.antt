@@ -1,16 +1,18 @@
 -- A lent flow that passes both tests is the flow of a state; one that doesn't fits no case with these rows.
 use mathlib.Core.Path.{◌≡◌, sym, ap, ◌∙◌, subst}
-use mathlib.Core.Bool.{Bool, true, false}
+use mathlib.Core.Bool.{Bool}
 use mathlib.Core.List.{List}
 use Prim.Native.Nat.{ℕ, ◌+◌, ◌≤◌, ◌<◌}
 use native.Mathlib.Omega.{arith}
 use lib.IntN.{ℤ}
+use Rattle.std.specs.Prelude.{Option, None, Some}
 use Rattle.rows.specs.Row.{nth}
 use Rattle.quantity.specs.Signed.{pos_part, neg_part}
 use Rattle.quantity.proofs.Parts.{one_side}
 use Rattle.grid.proofs.Net.{Net}
 use Rattle.grid.proofs.Flow.{Balanced}
 use Rattle.search.specs.declared.Wires.{Wires}
+use Rattle.search.specs.declared.Latent.{Latent}
 use Rattle.reroute.specs.InsideMoves.{network}
 use Rattle.verdict.specs.Case.{Case, on, Fits}
 use Rattle.verdict.proofs.Plain.{flow_of, base}
@@ -19,7 +21,6 @@ use Rattle.verdict.proofs.Fitting.{nothing, fits_within, fits_balanced, settled_
 use Rattle.state.specs.Inside.{Held, State}
 use Rattle.state.proofs.Base.{base_net, basic}
 use Rattle.fit.specs.Inside.{Lendable, Fitted}
-use Rattle.fit.specs.declared.Lending.{Lending}
 
 module _ (C : Case) (level : Level C) (W : Wires) (served : List Bool) (live gain load : List ℕ) (h : Held C W served live)
     (gain_is : nth gain ≡ (λ i. pos_part (C.injection i))) (load_is : nth load ≡ (λ i. neg_part (C.injection i))) where
@@ -34,13 +35,13 @@ module _ (C : Case) (level : Level C) (W : Wires) (served : List Bool) (live gai
     small = small;
   }
 
-  module _ (flow : List ℤ) (r : Lending) (d : Fitted W flow live gain load r) where
+  module _ (flow : List ℤ) (r : Option Latent) (d : Fitted W flow live gain load r) where
     live_at : (k : ℕ) → nth live k ≡ (base C).limit k
     live_at k = ap (λ (N : Net). N.limit k) net
 
-    pub fit_state : r.fits ≡ true → State C (on flow) W served live r.latent
-    fit_state e =
-        let l = d.left e in
+    pub fit_state : (lat : Latent) → r ≡ Some lat → State C (on flow) W served live lat
+    fit_state lat e =
+        let l = d.left lat e in
         let inside : (k : ℕ) → k < C.branches → k < W.branches = λ k u. omega (arith, h.branches_are) in
         let at : (k : ℕ) → nth live k ≡ (base C).limit k = live_at in
         record {
@@ -54,10 +55,10 @@ module _ (C : Case) (level : Level C) (W : Wires) (served : List Bool) (live gai
                 ahead_fits = λ k u. omega (arith, (l.keeps k (inside k u)).ahead, at k);
                 back_fits = λ k u. omega (arith, (l.keeps k (inside k u)).back, at k);
               })
-              (subst (λ (N : Net). Balanced N (flow_of (on flow)) nothing nothing) net (d.balances e));
+              (subst (λ (N : Net). Balanced N (flow_of (on flow)) nothing nothing) net (d.balances lat e));
         }
 
-    pub fit_not : r.fits ≡ false → Fits C C.limit (on flow) → ⊥
+    pub fit_not : r ≡ None → Fits C C.limit (on flow) → ⊥
     fit_not e F =
         let w = fits_within C C.limit (on flow) F in
         d.unfit e

@@ -9,6 +9,5 @@ pub mod Lending
 pub mod Status
 pub mod OneOverload
 pub mod Checked
-pub mod ProperAnswer
 pub mod Surveying
 pub mod Noting

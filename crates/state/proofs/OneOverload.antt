@@ -4,9 +4,7 @@ use mathlib.Core.List.{List}
 use Prim.Native.Nat.{ℕ}
 use lib.IntN.{ℤ}
 use Rattle.rows.specs.Bit.{has}
-use Rattle.answer.specs.Answer.{Said}
-use Rattle.answer.specs.declared.Place.TheVariants.{Nowhere}
-use Rattle.answer.specs.declared.Answer.{Answer}
+use Rattle.answer.specs.Answer.{Answer, Nowhere, Said}
 use Rattle.answer.proofs.Said.{said_same}
 use Rattle.verdict.specs.Case.{Case, Posed, Fits}
 use Rattle.verdict.proofs.Fitting.{fits_none}

@@ -11,7 +11,7 @@ use lib.Seq.{get_or-set_same, get_or-set_other}
 use Rattle.rows.specs.Row.{nth}
 use Rattle.rows.specs.Sum.{pick}
 use Rattle.rows.proofs.Sum.{pick_le}
-use Rattle.answer.specs.declared.Answer.{Answer}
+use Rattle.answer.specs.Answer.{Answer}
 use Rattle.search.specs.declared.Wires.{Wires}
 use Rattle.search.specs.declared.Latent.{Latent}
 use Rattle.verdict.specs.Case.{Case}

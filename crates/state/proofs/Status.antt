@@ -10,7 +10,7 @@ use lib.Dec.{eqb}
 use lib.ListN.{length-set, get_or-eq_default}
 use lib.Seq.{get_or-set_same, get_or-set_other}
 use Rattle.rows.specs.Bit.{bit_at, has}
-use Rattle.answer.specs.declared.Outcome.TheVariants.{Accepted}
+use Rattle.answer.specs.Answer.{Accepted}
 use Rattle.quantity.specs.declared.Kva.{Kva}
 use Rattle.quantity.specs.Rating.{limit_of}
 use Rattle.bits.specs.Field.{set_bit}

@@ -8,6 +8,7 @@ use native.Mathlib.Omega.{arith}
 use borrow.Author.Tests.{ne_eqb}
 use lib.IntN.{ℤ, pos, ◌-ℤ◌}
 use lib.ListN.{length, replicate, get_or-replicate, length-replicate, get_or-eq_default}
+use Rattle.std.specs.Prelude.{Option, None, Some}
 use Rattle.rows.specs.Row.{nth}
 use Rattle.rows.specs.Bit.{has}
 use Rattle.rows.specs.Sum.{Group, pick}
@@ -23,8 +24,7 @@ use Rattle.search.specs.declared.Latent.{Latent}
 use Rattle.reroute.specs.InsideMoves.{network, carried, TwiceLimit}
 use Rattle.reroute.specs.InsideVerdicts.{Carrying, Shortage, Says, Losable, Lost}
 use Rattle.reroute.specs.declared.Judgement.{Judgement}
-use Rattle.reroute.specs.declared.Verdict.{Verdict}
-use Rattle.reroute.specs.declared.Verdict.TheVariants.{Carries, Short}
+use Rattle.reroute.specs.declared.Shortfall.{Shortfall}
 use Rattle.verdict.specs.Case.{Case, Posed, out, Fits}
 use Rattle.verdict.specs.Excess.{NoExcess, Short as IsShort}
 use Rattle.verdict.specs.Island.{ShortNumber}
@@ -151,9 +151,9 @@ module _ (C : Case) (f : ℕ → ℤ) (W : Wires) (served : List Bool) (live : L
       (λ k u. omega (arith, s.latents.ahead_is k u, limit_at k))
       (record { bus = (fits_balanced C C.limit f s.fits).bus })
 
-  pub says : (k : ℕ) (r : Judgement) → Lost W live lat k r → Says (loss_net C k) (carried (loss_net C k).limit r.latent.ahead) (has r.group) r.verdict
+  pub says : (k : ℕ) (r : Judgement) → Lost W live lat k r → Says (loss_net C k) (carried (loss_net C k).limit r.latent.ahead) r.short
   says k r l =
-      subst (λ (N : Net). Says (without N k) (carried (without N k).limit r.latent.ahead) (has r.group) r.verdict) (held_net C W served live s.held)
+      subst (λ (N : Net). Says (without N k) (carried (without N k).limit r.latent.ahead) r.short) (held_net C W served live s.held)
       (l.says (λ i. pos_part (C.injection i)) (λ i. neg_part (C.injection i))
       (subst (λ (N : Net). Balanced N (carried (nth live) lat.ahead) nothing nothing) (sym (held_net C W served live s.held)) balanced))
 
@@ -212,12 +212,12 @@ module _ (C : Case) (f : ℕ → ℤ) (W : Wires) (served : List Bool) (live : L
       let o = other_limit k j n in
       (λ e. omega (arith, q, l, o, ap pos_part e, ap neg_part e), λ e. by_parts (after k r j) (f j) (omega (arith, q, l, o, e)))
 
-  pub judge_carries : (k : ℕ) (r : Judgement) (bits : List ℕ) → k < C.branches → C.served k ≡ true → Lost W live lat k r → r.verdict ≡ Carries
+  pub judge_carries : (k : ℕ) (r : Judgement) (bits : List ℕ) → k < C.branches → C.served k ≡ true → Lost W live lat k r → r.short ≡ None
       → (nth lat.ahead k ≡ nth live k → ⊥) → Changed W.branches lat.ahead r.latent.ahead k bits → TrueRecord C f k (record_bytes 1 0 (none 16) bits)
   judge_carries k r bits u e l v flowing ch =
       let d : Changed C.branches lat.ahead r.latent.ahead k bits = rw s.held.branches_are at ch in
       let c : Carrying (loss_net C k) (carried (loss_net C k).limit r.latent.ahead) =
-      subst (λ (w : Verdict). Says (loss_net C k) (carried (loss_net C k).limit r.latent.ahead) (has r.group) w) v (says k r l) in
+      subst (λ (o : Option Shortfall). Says (loss_net C k) (carried (loss_net C k).limit r.latent.ahead) o) v (says k r l) in
       carrying_record C f s.held.posed k bits d.long d.bytes e (after k r) (after_fits k r c)
       (λ j w. (
         λ h. let x = d.named j h in (x.other, λ q. x.changed ((after_is k r j w x.other).0 q)),
@@ -231,22 +231,25 @@ module _ (C : Case) (f : ℕ → ℤ) (W : Wires) (served : List Bool) (live : L
       unnamed j w false h = h
 
   -- ---- A branch that is short.
-  pub is_short : (k e : ℕ) (r : Judgement) → Lost W live lat k r → r.verdict ≡ Short e → length r.group ≡ 16 → IsShort C k e (has r.group)
-  is_short k e r l v lg =
-      let c : Shortage (loss_net C k) (has r.group) e =
-      subst (λ (w : Verdict). Says (loss_net C k) (carried (loss_net C k).limit r.latent.ahead) (has r.group) w) v (says k r l) in
-      (short_is C k s.held.posed fitting e (has r.group)).1 (record {
+  pub is_short : (k : ℕ) (x : Shortfall) (r : Judgement) → Lost W live lat k r → r.short ≡ Some x → IsShort C k x.excess (has x.group)
+  is_short k x r l v =
+      let c : Shortage (loss_net C k) (has x.group) x.excess =
+      subst (λ (o : Option Shortfall). Says (loss_net C k) (carried (loss_net C k).limit r.latent.ahead) o) v (says k r l) in
+      let g = l.grouped x v in
+      (short_is C k s.held.posed fitting x.excess (has x.group)).1 (record {
         above = c.some;
         smallest = c.smallest;
-        beyond = clipped C.buses r.group lg (λ i w. l.beyond i (rw s.held.buses_are w));
+        beyond = clipped C.buses x.group g.long (λ i w. g.beyond i (rw s.held.buses_are w));
       })
 
-  pub short_low : (k e : ℕ) (r : Judgement) → k < C.branches → Lost W live lat k r → r.verdict ≡ Short e → length r.group ≡ 16 → e ≤ 1000000
-  short_low k e r u l v lg =
-      omega (arith, shortage_limit C k e (has r.group) s.held.posed fitting u (is_short k e r l v lg), s.held.posed.rated k u)
+  pub short_low : (k : ℕ) (x : Shortfall) (r : Judgement) → k < C.branches → Lost W live lat k r → r.short ≡ Some x → x.excess ≤ 1000000
+  short_low k x r u l v =
+      omega (arith, shortage_limit C k x.excess (has x.group) s.held.posed fitting u (is_short k x r l v), s.held.posed.rated k u)
 
-  pub judge_short : (k e n : ℕ) (r : Judgement) → k < C.branches → C.served k ≡ true → Lost W live lat k r → r.verdict ≡ Short e
-      → length r.group ≡ 16 → (IsShort C k e (has r.group) → ShortNumber C k n) → TrueRecord C f k (record_bytes n e r.group (none 32))
-  judge_short k e n r u o l v lg number =
-      short_record C f k e n r.group lg (group_bytes_lem r.group lg l.bytes) o (omega (arith, short_low k e r u l v lg)) (is_short k e r l v lg)
-      (number (is_short k e r l v lg))
+  pub judge_short : (k n : ℕ) (x : Shortfall) (r : Judgement) → k < C.branches → C.served k ≡ true → Lost W live lat k r → r.short ≡ Some x
+      → (IsShort C k x.excess (has x.group) → ShortNumber C k n) → TrueRecord C f k (record_bytes n x.excess x.group (none 32))
+  judge_short k n x r u o l v number =
+      let g = l.grouped x v in
+      let short = is_short k x r l v in
+      short_record C f k x.excess n x.group g.long (group_bytes_lem x.group g.long g.bytes) o (omega (arith, short_low k x r u l v)) short
+      (number short)

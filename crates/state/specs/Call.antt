@@ -1,11 +1,8 @@
 -- What every call that is lent a book, its flow and its table promises: how it may end.
 use Rattle.std.specs.Prelude.{◌≡◌, ◌||◌, List, [], ◌∷◌, ℕ, ◌*◌, ltb, ℤ, length}
 use Rattle.rows.specs.Bit.{has}
-use Rattle.answer.specs.Answer.{Said, SaidBy, refusal, refuse_if, and_then}
-use Rattle.answer.specs.declared.Place.TheVariants.{Nowhere}
-use Rattle.answer.specs.declared.Outcome.{Outcome}
-use Rattle.answer.specs.declared.Outcome.TheVariants.{Accepted}
-use Rattle.answer.specs.declared.Answer.{Answer}
+use Rattle.answer.specs.declared.Refusal.TheVariants.{TooShort, FlowUnfit, PercentOutside}
+use Rattle.answer.specs.Answer.{Answer, Accepted, Nowhere, Said, SaidBy, and_then, refuse_if, refused}
 use Rattle.quantity.specs.Rating.{percent_out}
 use Rattle.bits.specs.Field.{Bytes}
 use Rattle.layout.specs.Layout.{branches_in}
@@ -16,11 +13,11 @@ use Rattle.verdict.specs.Update.{Lent}
 
 -- Refusal 21 before all others, where the percentage is outside 50 to 100; then 1 to 7, then 8 where the lent flow or table is too short for the
 -- branch count.
-unfoldable pub lent_check : ℕ → List ℕ → ℕ → ℕ → Outcome
+unfoldable pub lent_check : ℕ → List ℕ → ℕ → ℕ → Answer
 lent_check percent bs flows bytes =
-    refuse_if (percent_out percent) 21
+    refuse_if (percent_out percent) PercentOutside
     (and_then (check_of bs)
-    (refuse_if (ltb flows (branches_in bs) || ltb bytes (52 * branches_in bs)) 8
+    (refuse_if (ltb flows (branches_in bs) || ltb bytes (52 * branches_in bs)) TooShort
     Accepted))
 
 abbrev pub lent_numbers : List ℕ
@@ -40,10 +37,10 @@ pub record OverloadSaid (C : Case) (r : Answer) : Type 0 where
 
 -- A call on the case C that would make it the case D, after its own checks of what is lent. Accepted, it has done what `done` says; a refusal
 -- changes nothing lent.
-pub data Ends (check : Outcome) (C D : Case) (done : Type 0) (before after : Lent) (r : Answer) : Type 0 where
+pub data Ends (check : Answer) (C D : Case) (done : Type 0) (before after : Lent) (r : Answer) : Type 0 where
   refuses : (check ≡ Accepted → ⊥) → SaidBy check r → after ≡ before → Ends check C D done before after r
   -- 11: the lent flow doesn't fit the book
-  unfit : check ≡ Accepted → (Fits C C.limit (on before.flow) → ⊥) → SaidBy (refusal 11) r → after ≡ before → Ends check C D done before after r
+  unfit : check ≡ Accepted → (Fits C C.limit (on before.flow) → ⊥) → SaidBy (refused FlowUnfit) r → after ≡ before → Ends check C D done before after r
   -- 12: the base excess of the changed book
   overloads : check ≡ Accepted → Fits C C.limit (on before.flow) → OverloadSaid D r → after ≡ before → Ends check C D done before after r
   accepts : check ≡ Accepted → Fits C C.limit (on before.flow) → SaidBy Accepted r → done → Ends check C D done before after r

@@ -6,19 +6,20 @@ ghost use Rattle.std.specs.Prelude.{◌≡◌, ℕ, ◌+◌, ◌*◌, ◌<◌, �
 ghost use Rattle.rows.specs.Row.{nth, headed};
 ghost use Rattle.rows.specs.Bit.{has};
 ghost use Rattle.rows.specs.Sum.{pick};
+ghost use Rattle.answer.specs.declared.Refusal.TheVariants.{Overloaded};
 ghost use Rattle.verdict.specs.Case.{Case};
 ghost use Rattle.verdict.specs.Excess.{Short};
 ghost use Rattle.verdict.specs.Island.{ShortNumber};
 ghost use Rattle.verdict.specs.Record.{TrueRecord};
 ghost use Rattle.state.specs.Call.{lent_check};
-ghost use Rattle.state.specs.Inside.{State, Poised, Changed, Live, Plannable, Planned, Surveyable, Surveyed, RowRaisable, RowRaised, Raisable, Raised};
+ghost use Rattle.state.specs.Inside.{State, Poised, Changed, Live, Plannable, Planned, Surveyable, Surveys, RowRaisable, RowRaised, Raisable, Raised};
 ghost use Rattle.search.specs.declared.Latent.{Latent};
 ghost use Rattle.state.specs.Inside.{Fillable, Severable, Rewritten};
 
-use answer::Outcome;
+use answer::{Answer, Refusal};
 use book::CaseRows;
 use quantity::Kw;
-use reroute::Verdict;
+use reroute::Shortfall;
 use search::{Latent, Wires};
 
 // The limits in `live` are the normal ones, and those in `brief` what a loss is judged by; both are 0 for a branch out of service.
@@ -33,24 +34,26 @@ pub struct Plan {
 }
 
 // Refusal 21, then 1 to 8, for so many lent flow numbers and table bytes.
-pub fn check_lent(percent: u32, book: &[u8], flows: usize, bytes: usize) -> Outcome
+pub fn check_lent(percent: u32, book: &[u8], flows: usize, bytes: usize) -> Answer
     ensures { result ≡ lent_check percent book.now flows bytes }
 {
     if quantity::percent_out(percent) {
-        return answer::refuse(21);
+        return Err(Refusal::PercentOutside);
     }
     let h = layout::head_of(book);
-    let found = book::check_with(book, h);
-    let Outcome::Accepted = found else {
-        return found;
-    };
-    if flows < h.branches {
-        return answer::refuse(8);
+    book::check_with(book, h)?;
+    if flows < h.branches || bytes < 52 * h.branches {
+        return Err(Refusal::TooShort);
     }
-    if bytes < 52 * h.branches {
-        return answer::refuse(8);
-    }
-    Outcome::Accepted
+    Ok(())
+}
+
+// Refusal 12, of what is short.
+pub fn overloaded(lack: Shortfall) -> Refusal
+    ensures { result ≡ Overloaded lack.excess lack.group }
+{
+    let Shortfall { excess: kw, group } = lack;
+    Refusal::Overloaded { kw, group }
 }
 
 // The row of capacities: here the limits leave their kW.
@@ -59,12 +62,10 @@ fn live_limits(branches: usize, served: [bool; 256], limit: [Kw; 256]) -> [u32; 
     ensures { Live branches served limit result }
 {
     let mut live = [0u32; 256];
-    let mut k: usize = 0;
-    while k < branches {
+    for k in 0..branches {
         if served[k] {
             live[k] = limit[k].0;
         }
-        k += 1;
     }
     live
 }
@@ -73,27 +74,28 @@ pub fn prepare(rows: CaseRows) -> Plan
     requires { Plannable rows }
     ensures { Planned rows result }
 {
-    let first = rows.first;
-    let second = rows.second;
-    let served = rows.served;
-    let limit = rows.limit;
-    let loss = rows.loss;
-    let gain = rows.gain;
-    let load = rows.load;
-    let wires = search::link(rows.buses, rows.branches, first, second);
-    let live = live_limits(rows.branches, served, limit);
-    let brief = live_limits(rows.branches, served, loss);
-    Plan {
-        wires,
+    let CaseRows {
+        buses,
+        branches,
+        first,
+        second,
         served,
-        live,
-        brief,
+        limit,
+        loss,
+        gain,
+        load,
+    } = rows;
+    Plan {
+        wires: search::link(buses, branches, first, second),
+        served,
+        live: live_limits(branches, served, limit),
+        brief: live_limits(branches, served, loss),
         gain,
         load,
     }
 }
 
-// A lent book and flow: its rows, whether the flow fits, and the latent capacities that a fitting flow leaves of the normal limits.
+// A lent book and a flow that fits it: the rows of the book, and the latent capacities that the flow leaves of the normal limits.
 #[derive(Clone, Copy)]
 pub struct Survey {
     pub wires: Wires,
@@ -101,35 +103,32 @@ pub struct Survey {
     pub loss: [Kw; 256],
     pub live: [u32; 256],
     pub brief: [u32; 256],
-    pub fits: bool,
     pub latent: Latent,
 }
 
-pub fn survey_lent(percent: u32, book: &[u8], flow: &[i32]) -> Survey
+pub fn survey_lent(percent: u32, book: &[u8], flow: &[i32]) -> Option<Survey>
     requires { Surveyable percent book.now (length flow.now) }
-    ensures { Surveyed percent book.now flow.now result }
+    ensures { Surveys percent book.now flow.now result }
 {
     let rows = book::rows_of(percent, book);
     let loss = rows.loss;
-    let plan = prepare(rows);
-    let wires = plan.wires;
-    let served = plan.served;
-    let live = plan.live;
-    let brief = plan.brief;
-    let gain = plan.gain;
-    let load = plan.load;
-    let lending = fit::test(flow, wires, live, gain, load);
-    let fits = lending.fits;
-    let latent = lending.latent;
-    Survey {
+    let Plan {
+        wires,
+        served,
+        live,
+        brief,
+        gain,
+        load,
+    } = prepare(rows);
+    let latent = fit::test(flow, wires, live, gain, load)?;
+    Some(Survey {
         wires,
         served,
         loss,
         live,
         brief,
-        fits,
         latent,
-    }
+    })
 }
 
 fn raised_row(branches: usize, live: [u32; 256], brief: [u32; 256], row: [u32; 256]) -> [u32; 256]
@@ -137,10 +136,8 @@ fn raised_row(branches: usize, live: [u32; 256], brief: [u32; 256], row: [u32; 2
     ensures { RowRaised branches live brief row result }
 {
     let mut raised = row;
-    let mut k: usize = 0;
-    while k < branches {
+    for k in 0..branches {
         raised[k] = row[k] + (brief[k] - live[k]);
-        k += 1;
     }
     raised
 }
@@ -162,10 +159,8 @@ pub fn fill_flow(flow: &mut [i32], branches: usize, live: [u32; 256], ahead: [u3
     requires { Fillable branches live ahead (length flow.old) }
     ensures { flow.new ≡ headed branches (λ k. pos (nth live k) -ℤ pos (nth ahead k)) flow.old }
 {
-    let mut k: usize = 0;
-    while k < branches {
+    for k in 0..branches {
         flow[k] = quantity::difference(live[k], ahead[k]);
-        k += 1;
     }
 }
 
@@ -230,8 +225,7 @@ pub fn put_verdict(
         return;
     }
     let judged = reroute::loss(wires, live, latent, k);
-    let verdict = judged.verdict;
-    let Verdict::Short { excess } = verdict else {
+    let Some(short) = judged.short else {
         let before = latent.ahead;
         let left = judged.latent;
         let after = left.ahead;
@@ -239,13 +233,12 @@ pub fn put_verdict(
         record::write(rec, 1, 0, [0u8; 16], reroute);
         return;
     };
-    let group = judged.group;
     // If its loss would island, it is short by its whole flow.
     let mut number: u8 = 2;
-    if excess == quantity::apart(live[k], latent.ahead[k]) {
-        number = short_number(wires, served, live, k, group);
+    if short.excess == quantity::apart(live[k], latent.ahead[k]) {
+        number = short_number(wires, served, live, k, short.group);
     }
-    record::write(rec, number, excess, group, [0u8; 32]);
+    record::write(rec, number, short.excess, short.group, [0u8; 32]);
 }
 
 fn counted(judged: usize, more: bool) -> usize
@@ -271,15 +264,13 @@ pub fn rewrite(
     ensures { (C : Case) (f : ℕ → ℤ) → State C f wires served live latent → Rewritten C f served listed table.old table.new result }
 {
     let mut judged: usize = 0;
-    let mut k: usize = 0;
-    while k < wires.branches {
+    for k in 0..wires.branches {
         if bits::is_set(&listed, k) {
             let a = 52 * k;
             let e = a + 52;
             put_verdict(&mut table[a..e], wires, served, live, latent, k);
             judged = counted(judged, served[k]);
         }
-        k += 1;
     }
     judged
 }

@@ -6,11 +6,12 @@ use Prim.Native.Nat.{ℕ, ◌≤◌, ◌<◌}
 use native.Mathlib.Omega.{arith}
 use borrow.Author.Tests.{le-leb, lt-leb, leb-false, eq-eqb, ne_eqb, eqb-true, eqb-false}
 use lib.Dec.{eqb, leb}
-use Rattle.answer.specs.Answer.{refusal}
-use Rattle.answer.specs.declared.Outcome.{Outcome}
-use Rattle.answer.specs.declared.Outcome.TheVariants.{Accepted}
+use Rattle.answer.specs.declared.Refusal.TheVariants.{NoSuchBranch}
+use Rattle.rows.specs.Row.{member}
+use Rattle.answer.specs.declared.Refusal.{Refusal}
+use Rattle.answer.specs.Answer.{Answer, Accepted, number, refused}
 use Rattle.answer.proofs.Refusals.{past, past_both, stands}
-use Rattle.answer.proofs.Numbers.{Gives, plain, gives_if, gives_then}
+use Rattle.answer.proofs.Numbers.{Gives, gives_if, gives_then}
 use Rattle.layout.specs.declared.Form.{Form}
 use Rattle.layout.specs.declared.Branch.{Branch}
 use Rattle.layout.specs.Book.{branch}
@@ -28,12 +29,12 @@ pub record Switchable (percent : ℕ) (bs : List ℕ) (flows bytes b v : ℕ) : 
   pub there : b < branches_in bs
   pub other : (branch (book_of bs) b).status ≡ v → ⊥
 
-module _ {percent : ℕ} (bs : List ℕ) (flows bytes b v n : ℕ) where
+module _ {percent : ℕ} (bs : List ℕ) (flows bytes b v : ℕ) (n : Refusal) where
   pub switchable : branch_check percent bs flows bytes b v n ≡ Accepted → Switchable percent bs flows bytes b v
   unfolding branch_check
   switchable e =
       let h = past_both (lent_check percent bs flows bytes) _ e in
-      let t = past (leb (branches_in bs) b) 9 _ h.1 in
+      let t = past (leb (branches_in bs) b) _ _ h.1 in
       let u = past (eqb (branch (book_of bs) b).status v) n Accepted t.1 in
       record { passes = passed bs flows bytes h.0; there = leb-false (branches_in bs) b t.0; other = eqb-false _ v u.0 }
 
@@ -42,21 +43,21 @@ module _ {percent : ℕ} (bs : List ℕ) (flows bytes b v n : ℕ) where
   switching t = rw (passing bs flows bytes t.passes, lt-leb (branches_in bs) b t.there, ne_eqb (branch (book_of bs) b).status v t.other) refl
 
 -- Which numbers it gives, and each way in which it ends.
-module _ (percent : ℕ) (bs : List ℕ) (flows bytes b v n : ℕ) where
-  pub branch_gives : (ns : List ℕ) → Gives ns (lent_check percent bs flows bytes) → plain 9 ns ≡ true → plain n ns ≡ true
+module _ (percent : ℕ) (bs : List ℕ) (flows bytes b v : ℕ) (n : Refusal) where
+  pub branch_gives : (ns : List ℕ) → Gives ns (lent_check percent bs flows bytes) → member 9 ns ≡ true → member (number n) ns ≡ true
       → Gives ns (branch_check percent bs flows bytes b v n)
   unfolding branch_check
   branch_gives ns g j m =
       gives_then ns (lent_check percent bs flows bytes) _ g
-      (gives_if ns (leb (branches_in bs) b) 9 _ j
+      (gives_if ns (leb (branches_in bs) b) NoSuchBranch _ j
       (gives_if ns (eqb (branch (book_of bs) b).status v) n Accepted m tt))
 
-  pub by_lent : (o : Outcome) → o ≡ lent_check percent bs flows bytes → (o ≡ Accepted → ⊥) → o ≡ branch_check percent bs flows bytes b v n
+  pub by_lent : (o : Answer) → o ≡ lent_check percent bs flows bytes → (o ≡ Accepted → ⊥) → o ≡ branch_check percent bs flows bytes b v n
   unfolding branch_check
   by_lent o e m = sym (rw (← e) (stands o _ m))
 
   module _ (ok : lent_check percent bs flows bytes ≡ Accepted) where
-    pub by_branch : branches_in bs ≤ b → refusal 9 ≡ branch_check percent bs flows bytes b v n
+    pub by_branch : branches_in bs ≤ b → refused NoSuchBranch ≡ branch_check percent bs flows bytes b v n
     unfolding branch_check
     by_branch u = rw (ok, le-leb (branches_in bs) b u) refl
 
@@ -64,7 +65,7 @@ module _ (percent : ℕ) (bs : List ℕ) (flows bytes b v n : ℕ) where
       status : (branch (book_of bs) b).status ≡ x.status
       status = ap (λ (y : Branch). y.status) (branch_of_lem bs b u ∙ sym (e ∙ rw (o, q) refl))
 
-      pub by_status : x.status ≡ v → refusal n ≡ branch_check percent bs flows bytes b v n
+      pub by_status : x.status ≡ v → refused n ≡ branch_check percent bs flows bytes b v n
       unfolding branch_check
       by_status o = rw (ok, lt-leb (branches_in bs) b u, status, eq-eqb x.status v o) refl
 

@@ -1,18 +1,18 @@
 -- The check of a call that switches one branch.
 use Rattle.std.specs.Prelude.{List, [], ◌∷◌, ℕ, eqb, leb}
-use Rattle.answer.specs.Answer.{refuse_if, and_then}
-use Rattle.answer.specs.declared.Outcome.{Outcome}
-use Rattle.answer.specs.declared.Outcome.TheVariants.{Accepted}
+use Rattle.answer.specs.declared.Refusal.{Refusal}
+use Rattle.answer.specs.declared.Refusal.TheVariants.{NoSuchBranch}
+use Rattle.answer.specs.Answer.{Answer, Accepted, and_then, refuse_if}
 use Rattle.layout.specs.Book.{branch}
 use Rattle.layout.specs.Layout.{branches_in, book_of}
 use Rattle.state.specs.Call.{lent_check}
 
--- Refusals 21 and 1 to 8 as of every call, then 9: no such branch; then n: its status is v already.
-unfoldable pub branch_check : ℕ → List ℕ → ℕ → ℕ → ℕ → ℕ → ℕ → Outcome
-branch_check percent bs flows bytes b v n =
+-- Refusals 21 and 1 to 8 as of every call, then 9: no such branch; then the reason given: its status is v already.
+unfoldable pub branch_check : ℕ → List ℕ → ℕ → ℕ → ℕ → ℕ → Refusal → Answer
+branch_check percent bs flows bytes b v why =
     and_then (lent_check percent bs flows bytes)
-    (refuse_if (leb (branches_in bs) b) 9
-    (refuse_if (eqb (branch (book_of bs) b).status v) n
+    (refuse_if (leb (branches_in bs) b) NoSuchBranch
+    (refuse_if (eqb (branch (book_of bs) b).status v) why
     Accepted))
 
 abbrev pub branch_numbers : List ℕ

@@ -6,9 +6,9 @@ ghost use Rattle.std.specs.Prelude.{◌≡◌, ◌<◌};
 ghost use Rattle.switch.specs.Check.{branch_check};
 ghost use Rattle.switch.specs.Inside.{With};
 
-use answer::Outcome;
+use answer::{Answer, Refusal};
 
-// Refusals 21 and 1 to 8, then 9, then `number` where the branch has that status already.
+// Refusals 21 and 1 to 8, then 9, then `already` where the branch has that status.
 pub fn check(
     percent: u32,
     book: &[u8],
@@ -16,40 +16,27 @@ pub fn check(
     bytes: usize,
     branch: usize,
     status: u32,
-    number: u8,
-) -> Outcome
-    ensures { result ≡ branch_check percent book.now flows bytes branch status number }
+    already: Refusal,
+) -> Answer
+    ensures { result ≡ branch_check percent book.now flows bytes branch status already }
 {
-    let found = state::check_lent(percent, book, flows, bytes);
-    let Outcome::Accepted = found else {
-        return found;
-    };
+    state::check_lent(percent, book, flows, bytes)?;
     let head = layout::head_of(book);
     if head.branches <= branch {
-        return answer::refuse(9);
+        return Err(Refusal::NoSuchBranch);
     }
-    let form = head.form;
-    let x = layout::branch_at(book, form, head.buses, branch);
+    let x = layout::branch_at(book, head.form, head.buses, branch);
     if x.status == status {
-        return answer::refuse(number);
+        return Err(already);
     }
-    Outcome::Accepted
+    Ok(())
 }
 
-pub fn served_with(served: [bool; 256], k: usize, to: bool) -> [bool; 256]
+// A row with one of its places written.
+pub fn with<T: Copy>(mut row: [T; 256], k: usize, to: T) -> [T; 256]
     requires { k < 256 }
-    ensures { With served k to result }
+    ensures { With row k to result }
 {
-    let mut row = served;
-    row[k] = to;
-    row
-}
-
-pub fn kw_with(kw: [u32; 256], k: usize, to: u32) -> [u32; 256]
-    requires { k < 256 }
-    ensures { With kw k to result }
-{
-    let mut row = kw;
     row[k] = to;
     row
 }

@@ -7,11 +7,10 @@ use borrow.Author.Tests.{le-leb, lt-leb, leb-false, eq-eqb, ne_eqb, eqb-false, l
 use lib.Dec.{ltb, leb, eqb}
 use Rattle.rows.specs.Row.{member}
 use Rattle.rows.proofs.Row.{or_true, either_false}
-use Rattle.answer.specs.Answer.{refusal}
-use Rattle.answer.specs.declared.Outcome.{Outcome}
-use Rattle.answer.specs.declared.Outcome.TheVariants.{Accepted}
+use Rattle.answer.specs.declared.Refusal.TheVariants.{NoTwoBuses, InjectionOutside}
+use Rattle.answer.specs.Answer.{Answer, Accepted, refused}
 use Rattle.answer.proofs.Refusals.{past, past_both, stands}
-use Rattle.answer.proofs.Numbers.{Gives, plain, gives_if, gives_then, inside, gives_more}
+use Rattle.answer.proofs.Numbers.{Gives, gives_if, gives_then, inside, gives_more}
 use Rattle.layout.specs.Book.{size}
 use Rattle.layout.specs.Layout.{buses_in}
 use Rattle.state.specs.Call.{lent_check, lent_numbers}
@@ -35,8 +34,8 @@ module _ {percent : ℕ} (bs : List ℕ) (flows bytes up down kw : ℕ) where
   unfolding transfer_check
   movable e =
       let h = past_both (lent_check percent bs flows bytes) _ e in
-      let t = past (leb (buses_in bs) up || (leb (buses_in bs) down || eqb up down)) 19 _ h.1 in
-      let u = past (leaves_range bs up down kw) 20 Accepted t.1 in
+      let t = past (leb (buses_in bs) up || (leb (buses_in bs) down || eqb up down)) _ _ h.1 in
+      let u = past (leaves_range bs up down kw) _ Accepted t.1 in
       let a = either_false (leb (buses_in bs) up) _ t.0 in
       let b = either_false (leb (buses_in bs) down) _ a.1 in
       let p = passed bs flows bytes h.0 in
@@ -61,39 +60,39 @@ module _ {percent : ℕ} (bs : List ℕ) (flows bytes up down kw : ℕ) where
 
 -- ---- Which numbers they give, and each way in which they end.
 module _ (percent : ℕ) (bs : List ℕ) (flows bytes up down kw : ℕ) where
-  pub rest_gives : (ns : List ℕ) → Gives ns (lent_check percent bs flows bytes) → plain 19 ns ≡ true → plain 20 ns ≡ true
+  pub rest_gives : (ns : List ℕ) → Gives ns (lent_check percent bs flows bytes) → member 19 ns ≡ true → member 20 ns ≡ true
       → Gives ns (transfer_check percent bs flows bytes up down kw)
   unfolding transfer_check
   rest_gives ns g i j =
       gives_then ns (lent_check percent bs flows bytes) _ g
-      (gives_if ns (leb (buses_in bs) up || (leb (buses_in bs) down || eqb up down)) 19 _ i
-      (gives_if ns (leaves_range bs up down kw) 20 Accepted j tt))
+      (gives_if ns (leb (buses_in bs) up || (leb (buses_in bs) down || eqb up down)) NoTwoBuses _ i
+      (gives_if ns (leaves_range bs up down kw) InjectionOutside Accepted j tt))
 
   pub transfer_gives : Gives transfer_numbers (transfer_check percent bs flows bytes up down kw)
   unfolding member inside
   transfer_gives = rest_gives transfer_numbers
       (gives_more lent_numbers transfer_numbers (lent_check percent bs flows bytes) refl (lent_gives percent bs flows bytes)) refl refl
 
-  pub by_lent : (o : Outcome) → o ≡ lent_check percent bs flows bytes → (o ≡ Accepted → ⊥) → o ≡ transfer_check percent bs flows bytes up down kw
+  pub by_lent : (o : Answer) → o ≡ lent_check percent bs flows bytes → (o ≡ Accepted → ⊥) → o ≡ transfer_check percent bs flows bytes up down kw
   unfolding transfer_check
   by_lent o e m = sym (rw (← e) (stands o _ m))
 
   module _ (ok : lent_check percent bs flows bytes ≡ Accepted) where
-    by_bus : (leb (buses_in bs) up || (leb (buses_in bs) down || eqb up down)) ≡ true → refusal 19 ≡ transfer_check percent bs flows bytes up down kw
+    by_bus : (leb (buses_in bs) up || (leb (buses_in bs) down || eqb up down)) ≡ true → refused NoTwoBuses ≡ transfer_check percent bs flows bytes up down kw
     unfolding transfer_check
     by_bus t = rw (ok, t) refl
 
-    pub by_up : buses_in bs ≤ up → refusal 19 ≡ transfer_check percent bs flows bytes up down kw
+    pub by_up : buses_in bs ≤ up → refused NoTwoBuses ≡ transfer_check percent bs flows bytes up down kw
     by_up l = by_bus (rw (le-leb (buses_in bs) up l) refl)
 
-    pub by_down : buses_in bs ≤ down → refusal 19 ≡ transfer_check percent bs flows bytes up down kw
+    pub by_down : buses_in bs ≤ down → refused NoTwoBuses ≡ transfer_check percent bs flows bytes up down kw
     by_down l = by_bus (rw (le-leb (buses_in bs) down l) (or_true (leb (buses_in bs) up)))
 
-    pub by_same : up ≡ down → refusal 19 ≡ transfer_check percent bs flows bytes up down kw
+    pub by_same : up ≡ down → refused NoTwoBuses ≡ transfer_check percent bs flows bytes up down kw
     by_same e = by_bus (rw (eq-eqb up down e, or_true (leb (buses_in bs) down)) (or_true (leb (buses_in bs) up)))
 
     module _ (u : up < buses_in bs) (d : down < buses_in bs) (n : up ≡ down → ⊥) where
-      pub by_range : leaves_range bs up down kw ≡ true → refusal 20 ≡ transfer_check percent bs flows bytes up down kw
+      pub by_range : leaves_range bs up down kw ≡ true → refused InjectionOutside ≡ transfer_check percent bs flows bytes up down kw
       unfolding transfer_check
       by_range t = rw (ok, lt-leb (buses_in bs) up u, lt-leb (buses_in bs) down d, ne_eqb up down n, t) refl
 

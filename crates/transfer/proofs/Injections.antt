@@ -8,7 +8,7 @@ use native.Mathlib.Decide.{dec_lt}
 use borrow.Author.Tests.{lt-ltb, le-ltb}
 use lib.Dec.{ltb}
 use lib.IntN.{ℤ, pos, ◌+ℤ◌, ◌-ℤ◌}
-use Rattle.answer.specs.declared.Outcome.TheVariants.{Accepted}
+use Rattle.answer.specs.Answer.{Accepted}
 use Rattle.quantity.specs.Signed.{pos_part, neg_part}
 use Rattle.quantity.proofs.Parts.{by_parts, one_side, add_parts, minus_parts}
 use Rattle.layout.specs.Book.{size}

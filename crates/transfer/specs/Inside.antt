@@ -1,6 +1,6 @@
 -- What the inner functions of a move of load ask of the book.
 use Rattle.std.specs.Prelude.{◌≡◌, List, ℕ, ◌≤◌, ◌<◌}
-use Rattle.answer.specs.declared.Outcome.TheVariants.{Accepted}
+use Rattle.answer.specs.Answer.{Accepted}
 use Rattle.layout.specs.Book.{size}
 use Rattle.layout.specs.Layout.{buses_in}
 use Rattle.layout.specs.Check.{check_of}

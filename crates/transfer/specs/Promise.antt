@@ -1,9 +1,7 @@
 -- What `move_load` promises.
 use Rattle.std.specs.Prelude.{◌≡◌, Bool, ◌||◌, List, ◌∷◌, ℕ, ◌≤◌, ◌<◌, ltb, leb, eqb, ℤ, pos, nat_abs, ◌+ℤ◌, ◌-ℤ◌, length}
-use Rattle.answer.specs.Answer.{refuse_if, and_then}
-use Rattle.answer.specs.declared.Outcome.{Outcome}
-use Rattle.answer.specs.declared.Outcome.TheVariants.{Accepted}
-use Rattle.answer.specs.declared.Answer.{Answer}
+use Rattle.answer.specs.declared.Refusal.TheVariants.{NoTwoBuses, InjectionOutside}
+use Rattle.answer.specs.Answer.{Answer, Accepted, and_then, refuse_if}
 use Rattle.bits.specs.Field.{Bytes}
 use Rattle.layout.specs.Book.{size}
 use Rattle.layout.specs.Layout.{buses_in, injection_at, put_injection}
@@ -25,11 +23,11 @@ abbrev pub leaves_range : List ℕ → ℕ → ℕ → ℕ → Bool
 leaves_range bs up down kw = ltb 1000000 (size (risen bs up kw)) || ltb 1000000 (size (fallen bs down kw))
 
 -- Refusals 21 and 1 to 8, then 19: no such bus, or both the same; then 20.
-unfoldable pub transfer_check : ℕ → List ℕ → ℕ → ℕ → ℕ → ℕ → ℕ → Outcome
+unfoldable pub transfer_check : ℕ → List ℕ → ℕ → ℕ → ℕ → ℕ → ℕ → Answer
 transfer_check percent bs flows bytes up down kw =
     and_then (lent_check percent bs flows bytes)
-    (refuse_if (leb (buses_in bs) up || (leb (buses_in bs) down || eqb up down)) 19
-    (refuse_if (leaves_range bs up down kw) 20
+    (refuse_if (leb (buses_in bs) up || (leb (buses_in bs) down || eqb up down)) NoTwoBuses
+    (refuse_if (leaves_range bs up down kw) InjectionOutside
     Accepted))
 
 abbrev pub transfer_numbers : List ℕ

@@ -6,8 +6,8 @@ ghost use Rattle.state.specs.Call.{lent};
 ghost use Rattle.transfer.specs.Inside.{TwoBuses, Shiftable};
 ghost use Rattle.transfer.specs.Promise.{leaves_range, transfer_check, shifted_bytes, TransferEnds};
 
-use answer::{Answer, Outcome};
-use reroute::Verdict;
+use answer::{Answer, Refusal};
+use state::Survey;
 
 // By how much an injection may rise, of which so much lies above 0 and so much below. By how much it may fall, the other way round.
 fn room(above: u32, below: u32) -> u32
@@ -39,27 +39,18 @@ fn check(
     up: usize,
     down: usize,
     kw: u32,
-) -> Outcome
+) -> Answer
     ensures { result ≡ transfer_check percent book.now flows bytes up down kw }
 {
-    let found = state::check_lent(percent, book, flows, bytes);
-    let Outcome::Accepted = found else {
-        return found;
-    };
+    state::check_lent(percent, book, flows, bytes)?;
     let head = layout::head_of(book);
-    if head.buses <= up {
-        return answer::refuse(19);
-    }
-    if head.buses <= down {
-        return answer::refuse(19);
-    }
-    if up == down {
-        return answer::refuse(19);
+    if head.buses <= up || head.buses <= down || up == down {
+        return Err(Refusal::NoTwoBuses);
     }
     if leaves_range(book, up, down, kw) {
-        return answer::refuse(20);
+        return Err(Refusal::InjectionOutside);
     }
-    Outcome::Accepted
+    Ok(())
 }
 
 // Both injections are written over where they stand.
@@ -89,28 +80,19 @@ pub fn move_load(
 ) -> Answer
     ensures { TransferEnds percent up down kw (lent book.old flow.old table.old) (lent book.new flow.new table.new) result }
 {
-    let found = check(percent, book, flow.len(), table.len(), up, down, kw);
-    let Outcome::Accepted = found else {
-        return answer::answer_with(found);
-    };
-    let lent = state::survey_lent(percent, book, flow);
-    let fits = lent.fits;
-    if !fits {
-        return answer::answer_with(answer::refuse(11));
-    }
-    let wires = lent.wires;
-    let served = lent.served;
-    let live = lent.live;
-    let brief = lent.brief;
-    let latent = lent.latent;
+    check(percent, book, flow.len(), table.len(), up, down, kw)?;
+    let lent = state::survey_lent(percent, book, flow).ok_or(Refusal::FlowUnfit)?;
+    let Survey {
+        wires,
+        served,
+        live,
+        brief,
+        latent,
+        ..
+    } = lent;
     let judged = reroute::deliver(wires, latent, up, down, kw);
-    let verdict = judged.verdict;
-    if let Verdict::Short { excess } = verdict {
-        let group = judged.group;
-        return Answer {
-            outcome: Outcome::Overloaded(excess),
-            group,
-        };
+    if let Some(lack) = judged.short {
+        return Err(state::overloaded(lack));
     }
     let before = latent.ahead;
     let left = judged.latent;
@@ -121,5 +103,5 @@ pub fn move_load(
     let raised = state::raise(wires.branches, live, brief, left);
     state::rewrite(table, wires, served, brief, raised, listed);
     put_injections(book, up, down, kw);
-    answer::answer_with(Outcome::Accepted)
+    Ok(())
 }

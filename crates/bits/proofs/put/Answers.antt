@@ -1,7 +1,7 @@
 -- `put` leaves the low bits of the number in the bits from its place on: the last bit first, and each step by one law.
 use native.Mathlib.Omega.{arith}
 use native.Mathlib.Numerals.{sub-one}
-use mathlib.Core.Path.{◌≡◌, refl, ◌∙◌}
+use mathlib.Core.Path.{◌≡◌, ◌∙◌}
 use mathlib.Core.List.{List}
 use Prim.Native.Nat.{ℕ, zero, suc, ◌+◌, ◌-◌, ◌/◌, ◌%◌, ◌≤◌, ◌<◌}
 use Rattle.bits.specs.Field.{set_bit, put}
@@ -12,18 +12,8 @@ unfolding put
 put_step out o' at (suc i) x h e = rw e (simp sub-one)
 put_step out o' at zero x h e = elim h [ ]
 
-pub loop-i-init : goal.loop-i-init
-loop-i-init c = (omega arith, refl, refl)
-
 pub loop-i-preserved : goal.loop-i-preserved
-loop-i-preserved c = (
-  omega arith,
-  c.set_bit.auto.out ∙ c.loop-i.invariant.1,
-  put_step _ _ _ _ _ (omega arith) c.set_bit.ensures ∙ c.loop-i.invariant.2,
-)
-
-pub shape_of-out : goal.shape_of-out
-shape_of-out c = c.loop-i.invariant.1
+loop-i-preserved c = put_step _ _ _ _ _ (omega arith) c.set_bit.ensures ∙ c.loop-i.invariant
 
 end : (out out₀ : List ℕ) (at i x w v : ℕ) → i ≤ 0 → put out at i x ≡ put out₀ at w v → out ≡ put out₀ at w v
 unfolding put
@@ -31,4 +21,4 @@ end out out₀ at zero x w v h e = e
 end out out₀ at (suc _) x w v h e = elim h [ ]
 
 pub returns : goal.returns
-returns c = end _ _ _ _ _ _ _ c.loop-i-test.false c.loop-i.invariant.2
+returns c = end _ _ _ _ _ _ _ (omega arith) c.loop-i.invariant

@@ -1,26 +1,25 @@
 -- `check_with` refuses by the header first, then by what comes after it.
 use mathlib.Core.Path.{◌≡◌, refl, sym, ◌∙◌}
-use Rattle.answer.specs.declared.Outcome.TheVariants.{Accepted}
-use Rattle.answer.proofs.Refusals.{stands}
+use Rattle.answer.specs.Answer.{Accepted}
+use Rattle.answer.proofs.Refusals.{stands, gave_up, handed_on}
 use Rattle.layout.specs.Check.{head_check, check_of}
-use Rattle.book.proofs.TestAnswers.{head_range}
+use Rattle.book.proofs.HeadRange.{head_range}
 use Rattle.book.proofs.check_with.Goals as goal
 
-pub returns-in_default : goal.returns-in_default
+pub returns-in_err-check_head : goal.returns-in_err-check_head
 unfolding check_of
-returns-in_default c =
-    let e = c.check_head-head.ensures in
-    e ∙ sym (rw (← e) (stands _ _ c.in_default.not-Accepted))
+returns-in_err-check_head c =
+    let e = c.check_head.ensures in
+    handed_on c.in_err-check_head.was c.from_residual.ensures ∙ e ∙ sym (rw (← e) (stands _ _ (gave_up c.in_err-check_head.was)))
 
 pub check_body-requires : goal.check_body-requires
 check_body-requires c =
-    let passed : head_check c.args.book.now ≡ Accepted = sym c.check_head-head.ensures ∙ c.in-Accepted.is in
     let w = c.requires in
-    let r = head_range _ _ w passed in
+    let r = head_range _ _ w (sym c.check_head.ensures ∙ c.in_ok-check_head.was) in
     (w, r.few_buses, r.few_branches)
 
 pub returns : goal.returns
 unfolding check_of
 returns c =
-    let passed : head_check c.args.book.now ≡ Accepted = sym c.check_head-head.ensures ∙ c.in-Accepted.is in
+    let passed : head_check c.args.book.now ≡ Accepted = sym c.check_head.ensures ∙ c.in_ok-check_head.was in
     c.check_body.ensures ∙ rw passed refl

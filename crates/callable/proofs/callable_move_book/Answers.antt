@@ -9,14 +9,13 @@ returns c =
     let said = moved.ensures.answer in
     record {
       answer = moved.result;
-      place = place_of moved.result.outcome;
-      ended = rw c.form_of.ensures at moved.ensures;
+      place = place_of moved.result;
+      ended = rw (c.from-2.ensures, c.from.ensures) at moved.ensures;
       said = record {
         number_is = sym c.number_of.ensures;
         shortage_is = said.shortage_is;
         group_is = said.group_is;
         place_is = refl;
-        proper = said.proper;
       };
       place_told = c.tell_place.ensures;
     }

@@ -20,5 +20,5 @@ move_branches-requires c =
 
 pub returns : goal.returns
 returns c =
-    moved_bytes_lem _ _ _ c.requires.head c.requires.book c.args.out.now _ _ _ _ c.requires.exact c.clear.ensures c.put_head.ensures
+    moved_bytes_lem _ _ _ c.requires.head c.requires.book c.args.out.now _ _ _ _ c.requires.exact (c.fill.ensures.after (λ y e. e)) c.put_head.ensures
     c.move_buses.ensures c.move_branches.ensures

@@ -10,6 +10,6 @@ returns c =
       buses_are = c.field-2.ensures;
       branches_are = c.field-3.ensures;
       factor_is = c.field-4.ensures;
-      form_is = c.form_of.ensures ∙ ap (λ (v : ℕ). form_of v) c.field.ensures;
+      form_is = c.from.ensures ∙ ap (λ (v : ℕ). form_of v) c.field.ensures;
       spare_is = c.field-5.ensures;
     }

@@ -4,5 +4,5 @@ use Rattle.layout.proofs.put_head.Goals as goal
 
 pub returns : goal.returns
 returns c =
-    head_put _ _ _ _ _ _ c.args.h _ c.form_bit.ensures c.put.ensures c.put-2.ensures
+    head_put _ _ _ _ _ _ c.args.h _ c.from.ensures c.put.ensures c.put-2.ensures
     c.put-3.ensures c.put-4.ensures c.put-5.ensures

@@ -20,4 +20,4 @@ put_branches-requires c =
 
 pub returns : goal.returns
 returns c =
-    written _ _ _ _ _ _ c.args.out.now _ _ _ _ c.requires.0 c.clear.ensures c.put_head.ensures c.put_buses.ensures c.put_branches.ensures
+    written _ _ _ _ _ _ c.args.out.now _ _ _ _ c.requires.0 (c.fill.ensures.after (λ y e. e)) c.put_head.ensures c.put_buses.ensures c.put_branches.ensures

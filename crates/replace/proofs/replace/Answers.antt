@@ -1,6 +1,6 @@
 -- A branch without flow, named branches that take its flow, or all of them: each way meets the promise.
 use borrow.Author.Rules.{rules}
-use mathlib.Core.Path.{◌≡◌, subst}
+use mathlib.Core.Path.{◌≡◌, refl, subst}
 use mathlib.Core.List.{List}
 use Prim.Native.Nat.{ℕ}
 use lib.ListN.{length}
@@ -19,7 +19,7 @@ returns-then-latent-lost c =
     let long_ahead : length c.args.latent.ahead ≡ 256 = search rules in
     let long_back : length c.args.latent.back ≡ 256 = search rules in
     replaced_still _ _ _ _ _ c.requires long_ahead long_back c.if-latent-lost.true _
-    (rw c.without-cut.ensures at c.stands.ensures)
+    (record { short = refl; latent = c.without-cut.ensures })
 
 pub reroute-moved-requires : goal.reroute-moved-requires
 reroute-moved-requires c =
@@ -35,7 +35,7 @@ returns-then-moved-eq0 c =
     let cut = c.without-cut.ensures in
     replaced_named _ _ _ _ _ c.requires long_ahead long_back c.if-latent-lost.false _ (rw cut at c.chosen-within.ensures) _
     c.rest_of-rest.ensures _ c.reroute-moved.ensures c.if-moved-eq0.true _ _
-    (beside cut c.chosen.ensures) c.stands-then-moved-eq0.ensures
+    (beside cut c.chosen.ensures) (record { short = refl; latent = refl })
 
 pub returns : goal.returns
 returns c =

@@ -3,9 +3,6 @@ use native.Mathlib.Omega.{arith}
 use Rattle.reroute.proofs.Delivering.{between_ready, delivered}
 use Rattle.reroute.proofs.deliver.Goals as goal
 
-pub between-requires : goal.between-requires
-between-requires c = let p = c.requires in (omega (arith, p.linked.wired.few, p.from_in), omega (arith, p.linked.wired.few, p.to_in))
-
 pub reroute-requires : goal.reroute-requires
 reroute-requires c = rw c.between.ensures (between_ready c.requires _ (omega (arith, c.requires.small)))
 

@@ -1,10 +1,6 @@
 -- The roles of the first v buses are in the row.
-use Prim.Native.Nat.{◌-◌}
 use Rattle.reroute.proofs.Casting.{Casting}
 use Rattle.reroute.proofs.roles.Given as goal
 
 abbrev pub invariant-loop-v : goal.invariant-loop-v
 invariant-loop-v l = Casting l.buses l.rest l.row l.v
-
-abbrev pub decreases-loop-v : goal.decreases-loop-v
-decreases-loop-v l = l.buses - l.v

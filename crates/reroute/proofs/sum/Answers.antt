@@ -1,16 +1,21 @@
--- The first v numbers are summed.
+-- The first numbers of the row are summed.
+use borrow.Author.Rules.{rules}
 use native.Mathlib.Omega.{arith}
-use Rattle.reroute.proofs.Casting.{summing_none, summing_fits, summing_more, summing_end}
+use mathlib.Core.Path.{◌≡◌, ◌∙◌}
+use Prim.Native.Nat.{◌<◌}
+use lib.ListN.{length, take}
+use Rattle.std.specs.List.{sum}
+use Rattle.reroute.proofs.Casting.{sum_first, sum_fits}
 use Rattle.reroute.proofs.sum.Goals as goal
 
-pub loop-v-init : goal.loop-v-init
-loop-v-init c = summing_none c.requires
-
-pub overflow_add-sum : goal.overflow_add-sum
-overflow_add-sum c = omega (arith, summing_fits c.loop-v.invariant c.loop-v-test.true, c.loop-v.invariant.summable.few)
-
-pub loop-v-preserved : goal.loop-v-preserved
-loop-v-preserved c = summing_more c.loop-v.invariant c.loop-v-test.true
+pub sum-requires-clause-fits : goal.sum-requires-clause-fits
+sum-requires-clause-fits c =
+    let long : length c.args.row ≡ 128 = search rules in
+    let fits : sum (take c.args.buses c.args.row) < 4294967296 = sum_fits c.requires long in
+    search rules
 
 pub returns : goal.returns
-returns c = summing_end c.loop-v.invariant c.loop-v-test.false
+returns c =
+    let long : length c.args.row ≡ 128 = search rules in
+    let all : c.sum.result ≡ sum (take c.args.buses c.args.row) = search rules in
+    all ∙ sum_first c.args.row c.args.buses (omega (arith, c.requires.few))

@@ -1,161 +1,63 @@
 -- The return: its checks, the test of the lent flow, the rows with the branch in service, and what is then written.
 use native.Mathlib.Omega.{arith}
-use mathlib.Core.Path.{◌≡◌, sym, ap, ◌∙◌}
-use mathlib.Core.Bool.{true}
-use mathlib.Core.List.{List}
-use Prim.Native.Nat.{ℕ, ◌*◌, ◌<◌, ◌≤◌}
-use borrow.Author.Tests.{not-false}
-use lib.IntN.{ℤ}
-use lib.ListN.{length}
-use Rattle.answer.specs.Answer.{bare}
-use Rattle.answer.specs.declared.Outcome.TheVariants.{Accepted}
-use Rattle.state.specs.Inside.{Poised}
-use Rattle.state.proofs.Surveying.{surveyable, sizes}
-use Rattle.restore.specs.Promise.{back_check}
-use Rattle.restore.proofs.ReturnEnds.{ends_refused, may, ends_unfit, raisable_here, poised_here, ends_back}
+use mathlib.Core.Path.{◌≡◌, refl, sym, ap, ◌∙◌}
+use Rattle.std.specs.Prelude.{None}
+use Rattle.std.specs.Result.{result_ok}
+use Rattle.answer.specs.Answer.{refused}
+use Rattle.answer.proofs.Refusals.{gave_up, handed, handed_on, wanted}
+use Rattle.state.proofs.Surveying.{surveyable}
+use Rattle.restore.proofs.ReturnEnds.{ends_refused, may, ends_unfit, below_here, listed_here, raisable_here, poised_here, ends_back}
 use Rattle.restore.proofs.bring_back.Goals as goal
 
-pub returns-in_default : goal.returns-in_default
-returns-in_default c = ends_refused _ _ _ _ _ _ c.check-found.ensures c.in_default.not-Accepted c.answer_with.ensures
+pub returns-in_err-check : goal.returns-in_err-check
+returns-in_err-check c =
+    ends_refused _ _ _ _ _ _ c.check.ensures (gave_up c.in_err-check.was) (handed_on c.in_err-check.was c.from_residual.ensures)
 
-pub survey_lent-lent-requires : goal.survey_lent-lent-requires
-survey_lent-lent-requires c =
-    let bytes : List ℕ = c.args.book.now in
-    let lent_flow : List ℤ = c.args.flow.now in
-    let lent_table : List ℕ = c.args.table.now in
-    let returning : ℕ = c.args.branch in
-    let ok : back_check c.args.percent bytes (length lent_flow) (length lent_table) returning ≡ Accepted = sym c.check-found.ensures ∙ c.in-Accepted.is in
-    surveyable (may _ bytes lent_flow lent_table returning ok).passes
+pub survey_lent-requires : goal.survey_lent-requires
+survey_lent-requires c = surveyable (may _ _ _ _ _ (sym c.check.ensures ∙ c.in_ok-check.was)).passes
 
-pub returns-then-not-fits : goal.returns-then-not-fits
-returns-then-not-fits c =
-    let bytes : List ℕ = c.args.book.now in
-    let lent_flow : List ℤ = c.args.flow.now in
-    let lent_table : List ℕ = c.args.table.now in
-    let returning : ℕ = c.args.branch in
-    let ok : back_check c.args.percent bytes (length lent_flow) (length lent_table) returning ≡ Accepted = sym c.check-found.ensures ∙ c.in-Accepted.is in
-    ends_unfit _ bytes lent_flow lent_table returning ok _ c.survey_lent-lent.ensures (c.if-not-fits.true)
-    (c.answer_with-then-not-fits.ensures ∙ ap bare c.refuse.ensures)
+pub returns-in_err-lent : goal.returns-in_err-lent
+returns-in_err-lent c =
+    let none : c.survey_lent.result ≡ None = c.ok_or.ensures.ok_part ∙ ap result_ok c.in_err-lent.was in
+    ends_unfit _ _ _ _ _ (sym c.check.ensures ∙ c.in_ok-check.was) c.survey_lent.ensures none
+    (handed c.from_residual-in_err-lent.ensures ∙ ap refused (wanted none c.ok_or.ensures.value c.in_err-lent.was))
 
 pub offset_bounds-loss-branch : goal.offset_bounds-loss-branch
-offset_bounds-loss-branch c =
-    let returning : ℕ = c.args.branch in
-    let bytes : List ℕ = c.args.book.now in
-    let lent_flow : List ℤ = c.args.flow.now in
-    let lent_table : List ℕ = c.args.table.now in
-    let ok : back_check c.args.percent bytes (length lent_flow) (length lent_table) returning ≡ Accepted = sym c.check-found.ensures ∙ c.in-Accepted.is in
-    let sizes_at : (c.survey_lent-lent.result.wires.buses ≤ 128) × (c.survey_lent-lent.result.wires.branches ≤ 256) × (returning < c.survey_lent-lent.result.wires.branches) = sizes c.survey_lent-lent.ensures (may _ bytes lent_flow lent_table returning ok).there in
-    let below : returning < 256 = let s = sizes_at in omega (arith, s.1, s.2) in
-    omega (arith, below)
+offset_bounds-loss-branch c = let b = below_here _ _ _ _ _ (sym c.check.ensures ∙ c.in_ok-check.was) _ (c.survey_lent.ensures.fitting _ (c.ok_or.ensures.ok_part ∙ ap result_ok c.in_ok-lent.was)) in omega (arith, b)
 
 pub bounds-loss-branch : goal.bounds-loss-branch
-bounds-loss-branch c =
-    let returning : ℕ = c.args.branch in
-    let bytes : List ℕ = c.args.book.now in
-    let lent_flow : List ℤ = c.args.flow.now in
-    let lent_table : List ℕ = c.args.table.now in
-    let ok : back_check c.args.percent bytes (length lent_flow) (length lent_table) returning ≡ Accepted = sym c.check-found.ensures ∙ c.in-Accepted.is in
-    let sizes_at : (c.survey_lent-lent.result.wires.buses ≤ 128) × (c.survey_lent-lent.result.wires.branches ≤ 256) × (returning < c.survey_lent-lent.result.wires.branches) = sizes c.survey_lent-lent.ensures (may _ bytes lent_flow lent_table returning ok).there in
-    let below : returning < 256 = let s = sizes_at in omega (arith, s.1, s.2) in
-    omega (arith, below)
+bounds-loss-branch c = let b = below_here _ _ _ _ _ (sym c.check.ensures ∙ c.in_ok-check.was) _ (c.survey_lent.ensures.fitting _ (c.ok_or.ensures.ok_part ∙ ap result_ok c.in_ok-lent.was)) in omega (arith, b)
 
-pub raise-raised-requires : goal.raise-raised-requires
-raise-raised-requires c =
-    let bytes : List ℕ = c.args.book.now in
-    let lent_flow : List ℤ = c.args.flow.now in
-    let lent_table : List ℕ = c.args.table.now in
-    let returning : ℕ = c.args.branch in
-    let ok : back_check c.args.percent bytes (length lent_flow) (length lent_table) returning ≡ Accepted = sym c.check-found.ensures ∙ c.in-Accepted.is in
-    raisable_here _ bytes lent_flow lent_table returning ok _ c.survey_lent-lent.ensures (c.if-not-fits.false)
+pub raise-requires : goal.raise-requires
+raise-requires c = raisable_here _ _ _ _ _ (sym c.check.ensures ∙ c.in_ok-check.was) _ (c.survey_lent.ensures.fitting _ (c.ok_or.ensures.ok_part ∙ ap result_ok c.in_ok-lent.was))
 
-pub served_with-served-requires : goal.served_with-served-requires
-served_with-served-requires c =
-    let returning : ℕ = c.args.branch in
-    let bytes : List ℕ = c.args.book.now in
-    let lent_flow : List ℤ = c.args.flow.now in
-    let lent_table : List ℕ = c.args.table.now in
-    let ok : back_check c.args.percent bytes (length lent_flow) (length lent_table) returning ≡ Accepted = sym c.check-found.ensures ∙ c.in-Accepted.is in
-    let sizes_at : (c.survey_lent-lent.result.wires.buses ≤ 128) × (c.survey_lent-lent.result.wires.branches ≤ 256) × (returning < c.survey_lent-lent.result.wires.branches) = sizes c.survey_lent-lent.ensures (may _ bytes lent_flow lent_table returning ok).there in
-    let below : returning < 256 = let s = sizes_at in omega (arith, s.1, s.2) in
-    below
+pub with-served-requires : goal.with-served-requires
+with-served-requires c = (omega arith, below_here _ _ _ _ _ (sym c.check.ensures ∙ c.in_ok-check.was) _ (c.survey_lent.ensures.fitting _ (c.ok_or.ensures.ok_part ∙ ap result_ok c.in_ok-lent.was)))
 
-pub kw_with-briefs-requires : goal.kw_with-briefs-requires
-kw_with-briefs-requires c =
-    let returning : ℕ = c.args.branch in
-    let bytes : List ℕ = c.args.book.now in
-    let lent_flow : List ℤ = c.args.flow.now in
-    let lent_table : List ℕ = c.args.table.now in
-    let ok : back_check c.args.percent bytes (length lent_flow) (length lent_table) returning ≡ Accepted = sym c.check-found.ensures ∙ c.in-Accepted.is in
-    let sizes_at : (c.survey_lent-lent.result.wires.buses ≤ 128) × (c.survey_lent-lent.result.wires.branches ≤ 256) × (returning < c.survey_lent-lent.result.wires.branches) = sizes c.survey_lent-lent.ensures (may _ bytes lent_flow lent_table returning ok).there in
-    let below : returning < 256 = let s = sizes_at in omega (arith, s.1, s.2) in
-    below
+pub with-briefs-requires : goal.with-briefs-requires
+with-briefs-requires c = (omega arith, below_here _ _ _ _ _ (sym c.check.ensures ∙ c.in_ok-check.was) _ (c.survey_lent.ensures.fitting _ (c.ok_or.ensures.ok_part ∙ ap result_ok c.in_ok-lent.was)))
 
-pub kw_with-requires : goal.kw_with-requires
-kw_with-requires c =
-    let returning : ℕ = c.args.branch in
-    let bytes : List ℕ = c.args.book.now in
-    let lent_flow : List ℤ = c.args.flow.now in
-    let lent_table : List ℕ = c.args.table.now in
-    let ok : back_check c.args.percent bytes (length lent_flow) (length lent_table) returning ≡ Accepted = sym c.check-found.ensures ∙ c.in-Accepted.is in
-    let sizes_at : (c.survey_lent-lent.result.wires.buses ≤ 128) × (c.survey_lent-lent.result.wires.branches ≤ 256) × (returning < c.survey_lent-lent.result.wires.branches) = sizes c.survey_lent-lent.ensures (may _ bytes lent_flow lent_table returning ok).there in
-    let below : returning < 256 = let s = sizes_at in omega (arith, s.1, s.2) in
-    below
+pub with-requires : goal.with-requires
+with-requires c = (omega arith, below_here _ _ _ _ _ (sym c.check.ensures ∙ c.in_ok-check.was) _ (c.survey_lent.ensures.fitting _ (c.ok_or.ensures.ok_part ∙ ap result_ok c.in_ok-lent.was)))
 
-pub kw_with-requires-2 : goal.kw_with-requires-2
-kw_with-requires-2 c =
-    let returning : ℕ = c.args.branch in
-    let bytes : List ℕ = c.args.book.now in
-    let lent_flow : List ℤ = c.args.flow.now in
-    let lent_table : List ℕ = c.args.table.now in
-    let ok : back_check c.args.percent bytes (length lent_flow) (length lent_table) returning ≡ Accepted = sym c.check-found.ensures ∙ c.in-Accepted.is in
-    let sizes_at : (c.survey_lent-lent.result.wires.buses ≤ 128) × (c.survey_lent-lent.result.wires.branches ≤ 256) × (returning < c.survey_lent-lent.result.wires.branches) = sizes c.survey_lent-lent.ensures (may _ bytes lent_flow lent_table returning ok).there in
-    let below : returning < 256 = let s = sizes_at in omega (arith, s.1, s.2) in
-    below
+pub with-requires-2 : goal.with-requires-2
+with-requires-2 c = (omega arith, below_here _ _ _ _ _ (sym c.check.ensures ∙ c.in_ok-check.was) _ (c.survey_lent.ensures.fitting _ (c.ok_or.ensures.ok_part ∙ ap result_ok c.in_ok-lent.was)))
 
 pub anew-listed-requires : goal.anew-listed-requires
-anew-listed-requires c =
-    let returning : ℕ = c.args.branch in
-    let bytes : List ℕ = c.args.book.now in
-    let lent_flow : List ℤ = c.args.flow.now in
-    let lent_table : List ℕ = c.args.table.now in
-    let ok : back_check c.args.percent bytes (length lent_flow) (length lent_table) returning ≡ Accepted = sym c.check-found.ensures ∙ c.in-Accepted.is in
-    let sizes_at : (c.survey_lent-lent.result.wires.buses ≤ 128) × (c.survey_lent-lent.result.wires.branches ≤ 256) × (returning < c.survey_lent-lent.result.wires.branches) = sizes c.survey_lent-lent.ensures (may _ bytes lent_flow lent_table returning ok).there in
-    let table_room : 52 * c.survey_lent-lent.result.wires.branches ≤ length lent_table = omega (arith, (may _ bytes lent_flow lent_table returning ok).passes.table_room, c.survey_lent-lent.ensures.branches_are) in
-    (sizes_at.1, table_room)
+anew-listed-requires c = listed_here _ _ _ _ _ (sym c.check.ensures ∙ c.in_ok-check.was) _ (c.survey_lent.ensures.fitting _ (c.ok_or.ensures.ok_part ∙ ap result_ok c.in_ok-lent.was))
 
 pub rewrite-requires : goal.rewrite-requires
-rewrite-requires c =
-    let lent_table : List ℕ = c.args.table.now in
-    let bytes : List ℕ = c.args.book.now in
-    let lent_flow : List ℤ = c.args.flow.now in
-    let returning : ℕ = c.args.branch in
-    let ok : back_check c.args.percent bytes (length lent_flow) (length lent_table) returning ≡ Accepted = sym c.check-found.ensures ∙ c.in-Accepted.is in
-    let table_room : 52 * c.survey_lent-lent.result.wires.branches ≤ length lent_table = omega (arith, (may _ bytes lent_flow lent_table returning ok).passes.table_room, c.survey_lent-lent.ensures.branches_are) in
-    let fitting : c.survey_lent-lent.result.fits ≡ true = not-false _ c.if-not-fits.false-raw in
-    -- The rows with the branch in service, as a state of the changed case.
-    let poised : Poised c.survey_lent-lent.result.wires c.served_with-served.result c.kw_with-briefs.result (record { ahead = c.kw_with.result; back = c.kw_with-2.result }) = poised_here _ bytes lent_flow lent_table returning ok _ c.survey_lent-lent.ensures fitting _ c.raise-raised.ensures
-    c.served_with-served.ensures c.kw_with-briefs.ensures c.kw_with.ensures c.kw_with-2.ensures in
-    (poised, table_room)
+rewrite-requires c = (
+  poised_here _ _ _ _ _ (sym c.check.ensures ∙ c.in_ok-check.was) _ (c.survey_lent.ensures.fitting _ (c.ok_or.ensures.ok_part ∙ ap result_ok c.in_ok-lent.was)) _ c.raise.ensures
+      c.with-served.ensures c.with-briefs.ensures c.with.ensures c.with-2.ensures,
+  (listed_here _ _ _ _ _ (sym c.check.ensures ∙ c.in_ok-check.was) _ (c.survey_lent.ensures.fitting _ (c.ok_or.ensures.ok_part ∙ ap result_ok c.in_ok-lent.was))).1,
+)
 
 pub set_status-requires : goal.set_status-requires
-set_status-requires c =
-    let returning : ℕ = c.args.branch in
-    let bytes : List ℕ = c.args.book.now in
-    let lent_flow : List ℤ = c.args.flow.now in
-    let lent_table : List ℕ = c.args.table.now in
-    let ok : back_check c.args.percent bytes (length lent_flow) (length lent_table) returning ≡ Accepted = sym c.check-found.ensures ∙ c.in-Accepted.is in
-    let sizes_at : (c.survey_lent-lent.result.wires.buses ≤ 128) × (c.survey_lent-lent.result.wires.branches ≤ 256) × (returning < c.survey_lent-lent.result.wires.branches) = sizes c.survey_lent-lent.ensures (may _ bytes lent_flow lent_table returning ok).there in
-    let s = sizes_at in
-    (omega (arith, s.1, s.2), omega arith)
+set_status-requires c = let b = below_here _ _ _ _ _ (sym c.check.ensures ∙ c.in_ok-check.was) _ (c.survey_lent.ensures.fitting _ (c.ok_or.ensures.ok_part ∙ ap result_ok c.in_ok-lent.was)) in (omega (arith, b), omega arith)
 
 pub returns : goal.returns
 returns c =
-    let bytes : List ℕ = c.args.book.now in
-    let lent_flow : List ℤ = c.args.flow.now in
-    let lent_table : List ℕ = c.args.table.now in
-    let returning : ℕ = c.args.branch in
-    let ok : back_check c.args.percent bytes (length lent_flow) (length lent_table) returning ≡ Accepted = sym c.check-found.ensures ∙ c.in-Accepted.is in
-    let fitting : c.survey_lent-lent.result.fits ≡ true = not-false _ c.if-not-fits.false-raw in
-    ends_back _ bytes lent_flow lent_table returning ok _ c.survey_lent-lent.ensures fitting _ c.raise-raised.ensures
-    c.served_with-served.ensures c.kw_with-briefs.ensures c.kw_with.ensures c.kw_with-2.ensures
-    c.answer_with-2.ensures c.anew-listed.ensures c.set_status.ensures c.rewrite.ensures
+    ends_back _ _ _ _ _ (sym c.check.ensures ∙ c.in_ok-check.was) _ (c.survey_lent.ensures.fitting _ (c.ok_or.ensures.ok_part ∙ ap result_ok c.in_ok-lent.was)) _ c.raise.ensures
+    c.with-served.ensures c.with-briefs.ensures c.with.ensures c.with-2.ensures
+    refl c.anew-listed.ensures c.set_status.ensures c.rewrite.ensures

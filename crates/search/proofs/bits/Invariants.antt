@@ -1,10 +1,6 @@
 -- The first j bytes are filled.
-use Prim.Native.Nat.{◌-◌}
 use Rattle.search.proofs.Bytes.{FirstBytes}
 use Rattle.search.proofs.bits.Given as goal
 
 abbrev pub invariant-loop-j : goal.invariant-loop-j
 invariant-loop-j l = FirstBytes l.marks l.group l.j
-
-abbrev pub decreases-loop-j : goal.decreases-loop-j
-decreases-loop-j l = 16 - l.j

@@ -6,14 +6,14 @@ use Rattle.search.proofs.explore.Given as goal
 
 abbrev pub invariant-loop-side : goal.invariant-loop-side
 invariant-loop-side l =
-    Turn l.wires l.latent l.roles l.tree.marks l.tree.queue l.tree.room l.tree.origin l.at l.tree.count l.here l.low l.side
+    Turn l.wires l.work.latent l.roles l.tree.marks l.tree.queue l.tree.room l.tree.origin l.at l.tree.count l.here l.low l.side
 
 abbrev pub decreases-loop-side : goal.decreases-loop-side
 decreases-loop-side l = 256 - branch_of l.side
 
 abbrev pub invariant-scan : goal.invariant-scan
 invariant-scan l =
-    Scan l.wires l.latent l.roles l.tree.marks l.tree.queue l.tree.room l.tree.origin l.at l.tree.count
+    Scan l.wires l.work.latent l.roles l.tree.marks l.tree.queue l.tree.room l.tree.origin l.at l.tree.count
 
 abbrev pub decreases-scan : goal.decreases-scan
 decreases-scan l = 128 - l.at

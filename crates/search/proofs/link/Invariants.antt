@@ -4,6 +4,3 @@ use Rattle.search.proofs.link.Given as goal
 
 abbrev pub invariant-loop-k : goal.invariant-loop-k
 invariant-loop-k l = Chained l.buses l.branches l.first l.second l.head l.after l.far l.k
-
-abbrev pub decreases-loop-k : goal.decreases-loop-k
-decreases-loop-k l = l.k

@@ -1,13 +1,12 @@
 -- The record of one branch: each of its four ways is a true record.
 use borrow.Author.Rules.{rules}
 use native.Mathlib.Omega.{arith}
-use mathlib.Core.Path.{◌≡◌, sym, subst, ◌∙◌}
-use lib.ListN.{length}
+use mathlib.Core.Path.{sym, subst, ◌∙◌}
 use Rattle.state.proofs.TrueRecords.{judge_out, judge_still, judge_carries, judge_short, short_low, losable}
 use Rattle.verdict.specs.Island.{ShortNumber}
 use Rattle.state.proofs.ShortNumbers.{number_less}
 use Rattle.state.proofs.put_verdict.Goals as goal
-use Rattle.state.proofs.put_verdict.Goals.{then-excess-apart, else-excess-apart}
+use Rattle.state.proofs.put_verdict.Goals.{then-short-apart, else-short-apart}
 
 pub returns-then-not-served-k : goal.returns-then-not-served-k
 returns-then-not-served-k c C f s =
@@ -38,22 +37,20 @@ short_number-number-requires c =
 
 pub write-requires-2 : goal.write-requires-2
 write-requires-2 c =
-    let whole_group : length c.loss-judged.result.group ≡ 16 = let whole = c.loss-judged.type_inv in search rules in
     let a = c.requires in
     let s = a.0.state in
     let low = short_low a.0.case a.0.flow _ _ _ _ s _ _ _ (rw (← s.held.branches_are) a.1) c.loss-judged.ensures
-    c.in-Short.is whole_group in
+    c.in-Some.is in
     (search rules, omega (arith, low))
 
 pub returns : goal.returns
 returns c C f s =
-    let whole_group : length c.loss-judged.result.group ≡ 16 = let whole = c.loss-judged.type_inv in search rules in
     let there = c.requires.1 in
     rw c.write-2.ensures
     (judge_short C f _ _ _ _ s _ _ _ _ (rw (← s.held.branches_are) there) (sym (s.held.served_is _) ∙ c.if-not-served-k.false)
-    c.loss-judged.ensures c.in-Short.is whole_group
-    (λ h. elim c.if-excess-apart.branch [
-      | then-excess-apart w ↦ subst (ShortNumber C _) (sym w.number-is) (w.short_number-number.ensures C f _ _ s h)
-      | else-excess-apart w ↦
-          subst (ShortNumber C _) (sym w.number-is) (number_less C f _ _ _ _ s _ there _ _ h (λ q. w.if-excess-apart.false (q ∙ sym c.apart.ensures)))
+    c.loss-judged.ensures c.in-Some.is
+    (λ h. elim c.if-short-apart.branch [
+      | then-short-apart w ↦ subst (ShortNumber C _) (sym w.number-is) (w.short_number-number.ensures C f _ _ s h)
+      | else-short-apart w ↦
+          subst (ShortNumber C _) (sym w.number-is) (number_less C f _ _ _ _ s _ there _ _ h (λ q. w.if-short-apart.false (q ∙ sym c.apart.ensures)))
     ]))

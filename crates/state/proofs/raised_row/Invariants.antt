@@ -1,10 +1,6 @@
 -- `raised_row` raises each number of a row by as much as its limit rises.
-use Prim.Native.Nat.{◌-◌}
 use Rattle.state.proofs.Raising.{Raising}
 use Rattle.state.proofs.raised_row.Given as goal
 
 abbrev pub invariant-loop-k : goal.invariant-loop-k
 invariant-loop-k l = Raising l.branches l.live l.brief l.row l.raised l.k
-
-abbrev pub decreases-loop-k : goal.decreases-loop-k
-decreases-loop-k l = l.branches - l.k

@@ -3,43 +3,45 @@ use native.Mathlib.Omega.{arith}
 use mathlib.Core.Path.{◌≡◌, sym, ◌∙◌}
 use mathlib.Core.List.{List}
 use Prim.Native.Nat.{ℕ, ◌≤◌, ◌<◌}
-use Rattle.answer.specs.declared.Outcome.TheVariants.{Accepted}
+use Rattle.answer.specs.Answer.{Accepted}
 use Rattle.layout.specs.Layout.{branches_in}
 use Rattle.book.proofs.RowsHoldBook.{head_in_range}
 use Rattle.state.specs.Call.{lent_check}
 use Rattle.state.proofs.Checked.{passed}
 use Rattle.switch.proofs.Checking.{by_lent, by_branch, by_status, by_none}
+use Rattle.answer.proofs.Refusals.{gave_up, handed_on}
 use Rattle.switch.proofs.check.Goals as goal
 
-pub returns-in_default : goal.returns-in_default
-returns-in_default c = by_lent _ _ _ _ _ _ _ _ c.check_lent-found.ensures c.in_default.not-Accepted
+pub returns-in_err-check_lent : goal.returns-in_err-check_lent
+returns-in_err-check_lent c =
+    handed_on c.in_err-check_lent.was c.from_residual.ensures ∙ by_lent _ _ _ _ _ _ _ _ c.check_lent.ensures (gave_up c.in_err-check_lent.was)
 
 pub returns-then-head-branch : goal.returns-then-head-branch
 returns-then-head-branch c =
     let bytes : List ℕ = c.args.book.now in
-    let ok : lent_check c.args.percent bytes c.args.flows c.args.bytes ≡ Accepted = sym c.check_lent-found.ensures ∙ c.in-Accepted.is in
-    c.refuse.ensures ∙ by_branch _ _ _ _ _ _ _ ok
+    let ok : lent_check c.args.percent bytes c.args.flows c.args.bytes ≡ Accepted = sym c.check_lent.ensures ∙ c.in_ok-check_lent.was in
+    by_branch _ _ _ _ _ _ _ ok
     (omega (arith, c.if-head-branch.true, c.head_of-head.ensures.branches_are))
 
 pub branch_at-x-requires : goal.branch_at-x-requires
 branch_at-x-requires c =
     let bytes : List ℕ = c.args.book.now in
-    let ok : lent_check c.args.percent bytes c.args.flows c.args.bytes ≡ Accepted = sym c.check_lent-found.ensures ∙ c.in-Accepted.is in
+    let ok : lent_check c.args.percent bytes c.args.flows c.args.bytes ≡ Accepted = sym c.check_lent.ensures ∙ c.in_ok-check_lent.was in
     let range : (c.head_of-head.result.buses ≤ 128) × (c.head_of-head.result.branches ≤ 256) = let r = head_in_range bytes _ c.head_of-head.ensures (passed bytes _ _ ok).book in (r.few_buses, r.few_branches) in
     (range.0, omega (arith, c.if-head-branch.false, range))
 
 pub returns-then-x-status : goal.returns-then-x-status
 returns-then-x-status c =
     let bytes : List ℕ = c.args.book.now in
-    let ok : lent_check c.args.percent bytes c.args.flows c.args.bytes ≡ Accepted = sym c.check_lent-found.ensures ∙ c.in-Accepted.is in
+    let ok : lent_check c.args.percent bytes c.args.flows c.args.bytes ≡ Accepted = sym c.check_lent.ensures ∙ c.in_ok-check_lent.was in
     let there : c.args.branch < branches_in bytes = omega (arith, c.if-head-branch.false, c.head_of-head.ensures.branches_are) in
-    c.refuse-then-x-status.ensures ∙ by_status _ _ _ _ _ _ _ ok there _ _ _ c.head_of-head.ensures.form_is c.head_of-head.ensures.buses_are
+    by_status _ _ _ _ _ _ _ ok there _ _ _ c.head_of-head.ensures.form_is c.head_of-head.ensures.buses_are
     c.branch_at-x.ensures c.if-x-status.true
 
 pub returns : goal.returns
 returns c =
     let bytes : List ℕ = c.args.book.now in
-    let ok : lent_check c.args.percent bytes c.args.flows c.args.bytes ≡ Accepted = sym c.check_lent-found.ensures ∙ c.in-Accepted.is in
+    let ok : lent_check c.args.percent bytes c.args.flows c.args.bytes ≡ Accepted = sym c.check_lent.ensures ∙ c.in_ok-check_lent.was in
     let there : c.args.branch < branches_in bytes = omega (arith, c.if-head-branch.false, c.head_of-head.ensures.branches_are) in
     by_none _ _ _ _ _ _ _ ok there _ _ _ c.head_of-head.ensures.form_is c.head_of-head.ensures.buses_are
     c.branch_at-x.ensures c.if-x-status.false

@@ -17,7 +17,7 @@ overflow_cast-second c =
 pub loop-k-preserved : goal.loop-k-preserved
 loop-k-preserved c =
     branching_more _ _ _ _ _ _ _ _ _ _ _ _ _ _ _ c.loop-k-test.true c.requires.1 c.loop-k.invariant
-    c.branch_at-x.ensures c.limit_of.ensures c.loss_of.ensures
+    c.branch_at-x.ensures c.limit.ensures c.limit-in-loop-k.ensures
 
 pub returns : goal.returns
 returns c = branching_end _ _ _ _ _ _ _ _ _ c.loop-k-test.false c.loop-k.invariant
