@@ -1,12 +1,17 @@
 -- Laws of a line: nothing added, a byte added, one text after another.
 use mathlib.Core.Path.{◌≡◌, refl, sym, ap, subst, ◌∙◌}
 use mathlib.Core.List.{List, [], ◌∷◌, ◌++◌, append_assoc, append-nil}
-use Prim.Native.Nat.{ℕ, ◌+◌, ◌*◌, ◌<◌, ◌≤◌}
+use Prim.Native.Nat.{ℕ, ◌+◌, ◌-◌, ◌*◌, ◌<◌, ◌≤◌}
 use native.Mathlib.Omega.{arith}
-use native.Mathlib.Nat.{mul-suc}
+use native.Mathlib.Nat.{mul-suc, mul-le-mul_left}
 use native.Mathlib.Numerals.{add-one}
-use lib.ListN.{length, get_or, take, drop, set, length-set, length-append}
-use lib.Seq.{take-suc, take-suc-set, take-length, drop-drop, drop-set-lt}
+use borrow.Rule.Slice.PartMut.{put_mid}
+use lib.ListN.{length, get_or, take, drop, length-append}
+use lib.Seq.{take-suc, take-length, drop-drop}
+use Rattle.std.specs.List.{flat_map}
+use Rattle.std.proofs.lemmas.Grind.{flat_map-append}
+use Rattle.std.proofs.lemmas.List.Edits.{take-paste, drop-paste}
+use Rattle.std.proofs.lemmas.Slice.{put_mid-paste}
 use Rattle.line.specs.Text.{joined}
 use Rattle.line.specs.Inside.{Added}
 use Rattle.line.proofs.Joined.{joined_none, joined_more}
@@ -14,8 +19,15 @@ use Rattle.line.proofs.Joined.{joined_none, joined_more}
 pub added_none : (l : List ℕ) (at : ℕ) → Added [] l at l at
 added_none l at = record { ends = omega arith; holds = sym (append-nil (take at l)); rest = refl }
 
-pub added_byte : (l : List ℕ) (at x : ℕ) → at < length l → Added (x ∷ []) l at (set l at x) (at + 1)
-added_byte l at x h = record { ends = refl; holds = rw add-one (take-suc-set l at x h); rest = drop-set-lt (at + 1) l at x (omega arith) }
+-- A text copied over as many bytes.
+pub added_part : (text l : List ℕ) (a : ℕ) {part : List ℕ} → a + length text ≤ length l → part ≡ text
+    → Added text l a (put_mid a (a + length text - a) l part) (a + length text)
+added_part text l a {part} h e =
+    let n : length text ≡ a + length text - a = omega arith in
+    let here : a ≤ length l = omega arith in
+    let whole : length text ≤ length text = omega arith in
+    rw (put_mid-paste a (a + length text - a) l part text (length text) e n refl)
+    (record { ends = refl; holds = take-paste l a text (length text) here whole ∙ ap (λ (t : List ℕ). take a l ++ t) (take-length text); rest = drop-paste l a text (length text) here whole })
 
 pub added_then : {s t l m n : List ℕ} {a b c : ℕ} → Added s l a m b → Added t m b n c → Added (s ++ t) l a n c
 added_then {s} {t} {l} {m} {a = a} {b} {c} p q = record {
@@ -39,34 +51,31 @@ added_first {s} {l} {m} {b} p =
     let e : b ≡ length s = omega (arith, p.ends) in
     subst (λ (k : ℕ). Added s l 0 m k) e p
 
--- A text of which i bytes stand in the line.
-pub record Copying (text l : List ℕ) (a : ℕ) (m : List ℕ) (i : ℕ) : Type 0 where
-  pub upto : i ≤ length text
-  pub long : length m ≡ length l
-  pub added : Added (take i text) l a m (a + i)
+-- Of the texts of some items, each of at most w bytes, those of the first i stand in the line.
+pub record Listing {A : Type 0} (f : A → List ℕ) (w : ℕ) (items : List A) (l : List ℕ) (a : ℕ) (m : List ℕ) (b i : ℕ) : Type 0 where
+  pub short : b ≤ a + w * i
+  pub added : Added (flat_map f (take i items)) l a m b
 
-added_next : (text : List ℕ) {l m : List ℕ} {a i : ℕ} → Added (take i text) l a m (a + i) → i < length text → a + i < length m → Added (take (i + 1) text) l a (set m (a + i) (get_or text i 0)) (a + (i + 1))
-added_next text {l} {m} {a} {i} p h k =
-    let q : a + (i + 1) ≡ a + i + 1 = omega arith in
-    rw (q, add-one i, take-suc text i 0 h) (added_then p (added_byte m (a + i) (get_or text i 0) k))
+module _ {A : Type 0} (f : A → List ℕ) (w : ℕ) (items : List A) (l : List ℕ) (a : ℕ) where
+  pub listing_none : Listing f w items l a l a 0
+  listing_none = record { short = omega arith; added = added_none l a }
 
-module _ (text l : List ℕ) (a : ℕ) where
-  pub copying_none : Copying text l a l 0
-  copying_none =
-      let e : a + 0 ≡ a = omega arith in
-      record { upto = omega arith; long = refl; added = rw e (added_none l a) }
-
-  pub copying_more : {m : List ℕ} {i : ℕ} → Copying text l a m i → i < length text → a + length text ≤ length l → Copying text l a (set m (a + i) (get_or text i 0)) (i + 1)
-  copying_more {m} {i} p h k = record {
-    upto = omega arith;
-    long = simp length-set p.long;
-    added = added_next text p.added h (omega (arith, p.long));
+  pub listing_more : {m m' : List ℕ} {b c i : ℕ} (d : A) → Listing f w items l a m b i → i < length items → c ≤ b + w
+      → Added (f (get_or items i d)) m b m' c → Listing f w items l a m' c (i + 1)
+  listing_more {i = i} d p u h q = record {
+    short = rw (add-one i, mul-suc w i) (omega (arith, p.short));
+    added = added_same (sym (rw (add-one i, take-suc items i d u, flat_map-append f (take i items) (get_or items i d ∷ []), append-nil (f (get_or items i d))) refl)) (added_then p.added q);
   }
 
-  pub copied : {m : List ℕ} {i : ℕ} → Copying text l a m i → length text ≤ i → Added text l a m (a + i)
-  copied {m} {i} p h =
-      let e : i ≡ length text = omega (arith, p.upto) in
-      added_same (ap (λ (k : ℕ). take k text) e ∙ take-length text) p.added
+  -- Room for one more.
+  pub listing_room : {m : List ℕ} {b i : ℕ} → Listing f w items l a m b i → i < length items → b + w ≤ a + w * length items
+  listing_room {i = i} p u =
+      let more : i + 1 ≤ length items = omega arith in
+      let e : w * (i + 1) ≡ w * i + w = rw (add-one i) (omega (arith, mul-suc w i)) in
+      omega (arith, p.short, e, mul-le-mul_left w more)
+
+  pub listed_all : {m : List ℕ} {b i : ℕ} → Listing f w items l a m b i → i ≡ length items → Added (flat_map f items) l a m b
+  listed_all {i = i} p e = added_same (ap (λ (k : ℕ). flat_map f (take k items)) e ∙ ap (flat_map f) (take-length items)) p.added
 
 -- Of n texts, each of at most w bytes, i stand in the line.
 pub record Joining (f : ℕ → List ℕ) (w n : ℕ) (l : List ℕ) (a : ℕ) (m : List ℕ) (b i : ℕ) : Type 0 where

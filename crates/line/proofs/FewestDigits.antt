@@ -1,16 +1,15 @@
 -- The fewest decimal digits are the digits as defined, and a byte has two of base 16.
 use mathlib.Core.Path.{◌≡◌, refl, sym, ap, ◌∙◌}
-use mathlib.Core.Bool.{Bool, true, false, cond}
-use mathlib.Core.Logic.{◌≢◌}
+use mathlib.Core.Bool.{Bool, true, false, cond, false≢true}
 use mathlib.Core.List.{List, [], ◌∷◌, ◌++◌}
 use Prim.Native.Nat.{ℕ, zero, suc, ◌+◌, ◌-◌, ◌*◌, ◌/◌, ◌%◌, ◌^◌, ◌<◌, ◌≤◌}
 use native.Mathlib.Omega.{arith}
 use native.Mathlib.Nat.{pow-zero, pow-suc, mul-pos}
-use borrow.Author.Tests.{lt-ltb, le-ltb, eq-eqb, ne_eqb}
-use lib.Dec.{ltb, eqb}
+use borrow.Author.Tests.{lt-ltb, le-ltb, le-leb, ne_eqb}
+use lib.Dec.{ltb}
 use lib.Pow.{pow-add}
-use lib.IntN.{ℤ}
-use Rattle.quantity.specs.Signed.{pos_part, neg_part}
+use lib.IntN.{ℤ, pos, negsuc, nat_abs}
+use lib.Signed.{le_z}
 use lib.ListN.{length, length-append}
 use Rattle.rows.proofs.Sum.{side, below, equal, above}
 use Rattle.io.specs.Digits.{hex_digit_ascii, last_digits, IsDigitCount}
@@ -70,16 +69,7 @@ length_digits (suc most) n = rw (length-append (cond (ltb n 10) [] (digits_in mo
 pub length_next : (n : ℕ) → length (next_of n) ≤ 21
 length_next n = omega (arith, length_digits 20 n)
 
--- The two texts of a signed number.
-pub signed_above : (z : ℤ) (a b : ℕ) → a ≡ pos_part z → b ≡ neg_part z → b ≡ 0 → next_of a ≡ 32 ∷ signed_of z
-signed_above z a b p q e = rw (eq-eqb (neg_part z) 0 (sym q ∙ e), p) refl
-
-pub signed_below : (z : ℤ) (b : ℕ) → b ≡ neg_part z → b ≢ 0 → 32 ∷ 45 ∷ decimal_of b ≡ 32 ∷ signed_of z
-signed_below z b q e = rw (ne_eqb (neg_part z) 0 (λ h. e (q ∙ h)), q) refl
-
-pub length_signed : (z : ℤ) → length (signed_of z) ≤ 21
-length_signed z = few (eqb (neg_part z) 0)
-  where
-    few : (t : Bool) → length (cond t (decimal_of (pos_part z)) (45 ∷ decimal_of (neg_part z))) ≤ 21
-    few true = omega (arith, length_digits 20 (pos_part z))
-    few false = omega (arith, length_digits 20 (neg_part z))
+-- The text of a number below 0.
+pub signed_below : (z : ℤ) (b : ℕ) → le_z (pos 0) z ≡ false → b ≡ nat_abs z → 32 ∷ 45 ∷ decimal_of b ≡ 32 ∷ signed_of z
+signed_below (pos n) b h e = absurd (false≢true (sym h ∙ le-leb 0 n (omega arith)))
+signed_below (negsuc n) b h e = rw (ne_eqb (suc n) 0 (λ q. omega arith), e) refl

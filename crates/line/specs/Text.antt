@@ -1,6 +1,5 @@
 -- The text of numbers and bytes.
-use Rattle.std.specs.Prelude.{cond, List, [], ◌∷◌, ◌++◌, ℕ, zero, suc, ◌/◌, ◌%◌, ltb, eqb, ℤ, pos, length, get_or}
-use Rattle.rows.specs.Row.{nth}
+use Rattle.std.specs.Prelude.{cond, List, [], ◌∷◌, ◌++◌, ℕ, zero, suc, ◌/◌, ◌%◌, ltb, eqb, ℤ, flat_map, Option, Some, None}
 use Rattle.quantity.specs.Signed.{pos_part, neg_part}
 use Rattle.io.specs.Digits.{hex_digit_ascii, last_digits}
 
@@ -25,19 +24,22 @@ unfoldable pub joined : ℕ → (ℕ → List ℕ) → List ℕ
 joined zero f = []
 joined (suc n) f = joined n f ++ f n
 
--- A number with a space, 32, before it; each number of a row so; each byte of a row in hex.
+-- A number with a space, 32, before it.
 abbrev pub next_of : ℕ → List ℕ
 next_of n = 32 ∷ decimal_of n
 
-abbrev pub numbers_of : List ℕ → List ℕ
-numbers_of row = joined (length row) (λ i. next_of (nth row i))
-
-abbrev pub signeds_of : List ℤ → List ℕ
-signeds_of row = joined (length row) (λ i. 32 ∷ signed_of (get_or row i (pos 0)))
-
-abbrev pub hexes_of : List ℕ → List ℕ
-hexes_of bytes = joined (length bytes) (λ i. hex_of (nth bytes i))
-
 -- How a line of bytes in hex ends: a space, 32, the bytes, and the newline, 10.
 abbrev pub hex_end : List ℕ → List ℕ
-hex_end bytes = 32 ∷ (hexes_of bytes ++ (10 ∷ []))
+hex_end bytes = 32 ∷ (flat_map hex_of bytes ++ (10 ∷ []))
+
+-- The whole of it: a word, and a number where there is one, which has at most 21 bytes.
+abbrev pub number_text : Option ℕ → List ℕ
+number_text None = []
+number_text (Some n) = next_of n
+
+abbrev pub number_room : Option ℕ → ℕ
+number_room None = 0
+number_room (Some n) = 21
+
+abbrev pub hex_text : List ℕ → Option ℕ → List ℕ → List ℕ
+hex_text word number bytes = word ++ (number_text number ++ hex_end bytes)

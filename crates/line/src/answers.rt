@@ -14,12 +14,10 @@ pub fn put_group(out: &mut [u8], at: usize, group: [u8; 16]) -> usize
 {
     let count = bits::count(group);
     let mut end = put_next(out, at, count as u64);
-    let mut i: usize = 0;
-    while i < 128 {
+    for i in 0..128usize {
         if bits::is_set(&group, i) {
             end = put_next(out, end, i as u64);
         }
-        i += 1;
     }
     end
 }
@@ -34,7 +32,7 @@ pub fn put_place(out: &mut [u8], at: usize, place: Place) -> usize
         return at;
     };
     let after_item = put_next(out, at, item as u64);
-    put_next(out, after_item, field as u64)
+    put_next(out, after_item, u64::from(field))
 }
 
 // A word, then the number of the answer, its shortage, its group and its place.
@@ -46,8 +44,8 @@ pub fn put_answer(out: &mut [u8], word: &[u8], answer: Answer) -> usize
     let outcome = answer.outcome;
     let group = answer.group;
     let after_word = put(out, 0, word);
-    let after_number = put_next(out, after_word, number_of(outcome) as u64);
-    let after_shortage = put_next(out, after_number, shortage_of(outcome) as u64);
+    let after_number = put_next(out, after_word, u64::from(number_of(outcome)));
+    let after_shortage = put_next(out, after_number, u64::from(shortage_of(outcome)));
     let after_group = put_group(out, after_shortage, group);
     put_place(out, after_group, place_of(outcome))
 }

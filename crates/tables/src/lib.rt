@@ -11,7 +11,7 @@ ghost use Rattle.tables.specs.Inside.{taken, ReadRun, WriteAsked, write_good, Wr
 
 use answer::{Answer, Outcome};
 use layout::Form;
-use line::{answer_line, bytes_line, numbers_line, signed_line};
+use line::{answer_line, hex_line, list_line};
 use rows::{two, wide};
 use spaces::{four, number_at};
 use std::io;
@@ -43,8 +43,8 @@ pub fn run_read<R: Print>(
         return Ok(None);
     };
     answer_line(rt, b"read", answer)?;
-    signed_line(rt, b"injections", injections)?;
-    numbers_line(rt, b"branches", branches)?;
+    list_line(rt, b"injections", injections)?;
+    list_line(rt, b"branches", branches)?;
     Ok(Some(5))
 }
 
@@ -161,7 +161,7 @@ pub fn run_move<R: Print>(
     };
     answer_line(rt, b"moved", answer)?;
     let mut out = [0u8; 4207];
-    bytes_line(rt, &mut out, b"shelf", shelf)?;
+    hex_line(rt, &mut out, b"shelf", None, shelf)?;
     Ok(Some(4))
 }
 
@@ -251,6 +251,6 @@ pub fn run_meters<R: Print>(
         return Ok(None);
     };
     answer_line(rt, b"meters", answer)?;
-    signed_line(rt, b"injections", injections)?;
+    list_line(rt, b"injections", injections)?;
     Ok(Some(size))
 }

@@ -6,7 +6,7 @@ ghost use Rattle.tables.specs.Inside.{taken};
 ghost use Rattle.trial.specs.InsideCalls.{ScreenRun, OutRun, BackRun, TransferRun, CallRun};
 
 use answer::Answer;
-use line::{answer_line, hex_line, signed_line};
+use line::{answer_line, hex_line, list_line};
 use rows::two;
 use spaces::{Spaces, four, number_at};
 use std::io;
@@ -133,15 +133,15 @@ fn record_line<R: Print>(rt: &R, table: &[u8], k: usize) -> io::Result<()>
 {
     let mut out = [0u8; 133];
     let start = 52 * k;
-    hex_line(rt, &mut out, b"record", k, &table[start..start + 52])?;
+    hex_line(rt, &mut out, b"record", Some(k), &table[start..start + 52])?;
     Ok(())
 }
 
 // `D`: the book, the flow, and every record of the table.
 fn dump<R: Print>(rt: &R, s: &Spaces) -> io::Result<()> {
     let mut out = [0u8; 4227];
-    hex_line(rt, &mut out, b"book", s.bytes, &s.book)?;
-    signed_line(rt, b"flow", &s.flow)?;
+    hex_line(rt, &mut out, b"book", Some(s.bytes), &s.book)?;
+    list_line(rt, b"flow", &s.flow)?;
     for k in 0..256 {
         record_line(rt, &s.table, k)?;
     }

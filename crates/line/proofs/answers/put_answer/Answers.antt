@@ -7,8 +7,8 @@ pub returns : goal.returns
 returns c =
     record {
       added = added_then c.put-after_word.ensures
-          (added_then (rw c.number_of.ensures at c.put_next-after_number.ensures.added)
-          (added_then (rw c.shortage_of.ensures at c.put_next-after_shortage.ensures.added)
+          (added_then (rw (c.from.ensures, c.number_of.ensures) at c.put_next-after_number.ensures.added)
+          (added_then (rw (c.from-2.ensures, c.shortage_of.ensures) at c.put_next-after_shortage.ensures.added)
           (added_then c.put_group-after_group.ensures.added (rw c.place_of.ensures at c.put_place.ensures.added))));
       upper_bound = omega (
         arith,

@@ -11,6 +11,6 @@ returns-in_default c = record { added = added_same (sym (ap place_text c.in_defa
 pub returns : goal.returns
 returns c =
     record {
-      added = added_same (sym (ap place_text c.in-At.is)) (added_then c.put_next-after_item.ensures.added c.put_next.ensures.added);
+      added = added_same (sym (ap place_text c.in-At.is)) (added_then c.put_next-after_item.ensures.added (rw c.from.ensures at c.put_next.ensures.added));
       upper_bound = omega (arith, c.put_next-after_item.ensures.upper_bound, c.put_next.ensures.upper_bound);
     }
