@@ -2,7 +2,7 @@
 ghost use Rattle.std.specs.Prelude.{◌≡◌, ◌≤◌};
 ghost use Rattle.answer.specs.Answer.{Accepted};
 ghost use Rattle.layout.specs.Layout.{book_of};
-ghost use Rattle.layout.specs.Inside.{HeadRead};
+ghost use Rattle.layout.specs.Inside.{HeadRead, Small};
 ghost use Rattle.layout.specs.Check.{check_of};
 ghost use Rattle.book.specs.Inside.{GainsRead, BranchesRead, RowsRead};
 
@@ -58,7 +58,7 @@ struct BranchRows {
 // The ends, the service and the limits in kW of each branch at a percentage of nameplate: what it can carry, and for a short time, after the loss of
 // another. Its ratings leave their kVA here alone.
 fn branch_rows(percent: u32, book: &[u8], h: Head) -> BranchRows
-    requires { (h.buses ≤ 128) × (h.branches ≤ 256) × (h.factor ≤ 1000) × (percent ≤ 100) }
+    requires { Small h × (h.factor ≤ 1000) × (percent ≤ 100) }
     ensures { BranchesRead percent book.now h result }
 {
     let mut first = [0u8; 256];

@@ -6,7 +6,7 @@ ghost use Rattle.rows.specs.Row.{headed};
 ghost use Rattle.layout.specs.Fault.{first_fault};
 ghost use Rattle.layout.specs.Form.{fields, branch_values};
 ghost use Rattle.layout.specs.Layout.{buses_in, form_in, branch_after, injection_at};
-ghost use Rattle.layout.specs.Inside.{HeadRead};
+ghost use Rattle.layout.specs.Inside.{HeadRead, Small};
 ghost use Rattle.layout.specs.Check.{balances, bus_fault_at, branch_fault_at, head_check, body_check, check_of};
 ghost use Rattle.book.specs.Read.{BookRead};
 ghost use Rattle.book.specs.Inside.{tabled};
@@ -52,12 +52,12 @@ fn first_bus_fault(book: &[u8], buses: usize) -> Option<Place>
     layout::first_fault(buses, |k| layout::bus_fault(layout::bus_at(book, k)))
 }
 
-fn first_branch_fault(book: &[u8], form: Form, buses: usize, branches: usize) -> Option<Place>
-    requires { (form ≡ form_in book.now) × (buses ≡ buses_in book.now) × (buses ≤ 128) × (branches ≤ 256) }
-    ensures { result ≡ first_fault (branch_fault_at book.now) branches }
+fn first_branch_fault(book: &[u8], h: Head) -> Option<Place>
+    requires { HeadRead book.now h × Small h }
+    ensures { result ≡ first_fault (branch_fault_at book.now) h.branches }
 {
-    layout::first_fault(branches, |k| {
-        layout::branch_fault(form, buses, layout::branch_at(book, form, buses, k))
+    layout::first_fault(h.branches, |k| {
+        layout::branch_fault(h.form, h.buses, layout::branch_at(book, h.form, h.buses, k))
     })
 }
 
@@ -77,13 +77,13 @@ fn is_balanced(book: &[u8], buses: usize) -> bool
 
 // The tests after the header's: 4 to 7.
 fn check_body(book: &[u8], h: Head) -> Answer
-    requires { HeadRead book.now h × (h.buses ≤ 128) × (h.branches ≤ 256) }
+    requires { HeadRead book.now h × Small h }
     ensures { result ≡ body_check book.now }
 {
     if let Some(place) = first_bus_fault(book, h.buses) {
         return Err(Refusal::BusWrong(place));
     }
-    if let Some(place) = first_branch_fault(book, h.form, h.buses, h.branches) {
+    if let Some(place) = first_branch_fault(book, h) {
         return Err(Refusal::BranchWrong(place));
     }
     if bits::field(book, layout::branch_place(h.form, h.buses, h.branches), 7) != 0 {
@@ -130,7 +130,7 @@ fn fill_row(row: &mut [u32], form: Form, x: Branch)
 }
 
 fn fill_branches(book: &[u8], h: Head, out: &mut [u32])
-    requires { (h.buses ≤ 128) × (h.branches ≤ 256) × (fields h.form * h.branches ≤ length out.old) }
+    requires { Small h × (fields h.form * h.branches ≤ length out.old) }
     ensures { out.new ≡ tabled h.form h.branches (branch_after h.form h.buses book.now) out.old }
 {
     for k in 0..h.branches {

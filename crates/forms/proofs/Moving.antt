@@ -27,7 +27,7 @@ use Rattle.layout.proofs.WellFormed.{count_of, branch_of_lem}
 use Rattle.layout.proofs.Packed.{put_packed}
 use Rattle.layout.proofs.DecodeEncode.{encode_fields}
 use Rattle.book.proofs.RowsHoldBook.{head_in_range}
-use Rattle.forms.specs.Inside.{Small}
+use Rattle.layout.specs.Inside.{Small}
 use Rattle.forms.specs.Move.{differs, ratings_differ, would_lose, move_check, move_numbers, BookMoved}
 
 -- ---- which numbers it may give

@@ -7,9 +7,9 @@ ghost use Rattle.bits.specs.Fields.{put_items};
 ghost use Rattle.layout.specs.Book.{in_form};
 ghost use Rattle.layout.specs.Form.{branch_widths, branch_values};
 ghost use Rattle.layout.specs.Layout.{bus_widths, bus_start, branch_start, bus_at, branch_after, book_of, encode};
-ghost use Rattle.layout.specs.Inside.{HeadRead};
+ghost use Rattle.layout.specs.Inside.{HeadRead, Small};
 ghost use Rattle.forms.specs.Move.{differs, would_lose, move_check, BookMoved};
-ghost use Rattle.forms.specs.Inside.{Small, Movable};
+ghost use Rattle.forms.specs.Inside.{Movable};
 
 use answer::{Answer, Refusal};
 use layout::{Form, Head};

@@ -18,6 +18,11 @@ pub record HeadRead (bs : List ℕ) (h : Head) : Type 0 where
   pub form_is : h.form ≡ form_in bs
   pub spare_is : h.spare ≡ spare_in bs
 
+-- A header whose counts are small.
+pub record Small (h : Head) : Type 0 where
+  pub few_buses : h.buses ≤ 128
+  pub few_branches : h.branches ≤ 256
+
 abbrev pub head_fields : Head → List ℕ
 head_fields h = h.buses ∷ h.branches ∷ h.factor ∷ form_bit h.form ∷ h.spare ∷ []
 

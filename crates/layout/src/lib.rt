@@ -10,7 +10,7 @@ ghost use Rattle.layout.specs.Form.{in_new, form_of, form_bit, branch_widths, br
 ghost use Rattle.layout.specs.Layout.{head_widths, bus_widths, bus_start, status_bit, bits_for, bytes_for};
 ghost use Rattle.layout.specs.Layout.{bus_at, branch_after};
 ghost use Rattle.rows.specs.Inside.{Asked, Tells};
-ghost use Rattle.layout.specs.Inside.{CountedIn, HeadRead, Numbered, Numbers, Wide, Placed, head_fields, bus_from, bus_fields};
+ghost use Rattle.layout.specs.Inside.{CountedIn, HeadRead, Numbered, Numbers, Wide, Placed, Small, head_fields, bus_from, bus_fields};
 ghost use Rattle.layout.specs.Check.{outside, balances};
 
 use answer::Place;
@@ -231,7 +231,7 @@ pub fn head_of(book: &[u8]) -> Head
 }
 
 pub fn put_head(out: &mut [u8], h: Head)
-    requires { (h.buses ≤ 128) × (h.branches ≤ 256) }
+    requires { Small h }
     ensures { out.new ≡ puts out.old 0 head_widths (head_fields h) }
 {
     bits::put(out, 0, 8, h.buses as u32);

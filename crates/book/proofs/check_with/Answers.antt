@@ -16,7 +16,7 @@ pub check_body-requires : goal.check_body-requires
 check_body-requires c =
     let w = c.requires in
     let r = head_range _ _ w (sym c.check_head.ensures ∙ c.in_ok-check_head.was) in
-    (w, r.few_buses, r.few_branches)
+    (w, record { few_buses = r.few_buses; few_branches = r.few_branches })
 
 pub returns : goal.returns
 unfolding check_of

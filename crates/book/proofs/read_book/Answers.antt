@@ -43,7 +43,7 @@ fill_branches-requires c =
     let range : let h = c.head_of-h.result in InRange h.buses h.branches h.factor = head_in_range _ _ c.head_of-h.ensures (sym c.check_with.ensures ∙ c.in_ok-check_with.was) in
     let long : let h = c.head_of-h.result in fields h.form * h.branches ≤ length c.args.branches.now = rw c.numbers.ensures.count_is at c.if-branches-numbers.false in
     let r = range in
-    (r.few_buses, r.few_branches, long)
+    (record { few_buses = r.few_buses; few_branches = r.few_branches }, long)
 
 pub returns : goal.returns
 returns c =

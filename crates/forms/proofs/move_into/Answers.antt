@@ -1,22 +1,15 @@
 -- `move_into` writes the bytes of the book in the form asked for.
-use Rattle.forms.specs.Inside.{Small}
 use Rattle.forms.proofs.Moving.{small_head, moved_bytes_lem}
 use Rattle.forms.proofs.move_into.Goals as goal
 
 pub put_head-requires : goal.put_head-requires
-put_head-requires c =
-    let small : Small c.args.h = small_head _ _ c.requires.head c.requires.book in
-    let s = small in (s.few_buses, s.few_branches)
+put_head-requires c = let s = small_head _ _ c.requires.head c.requires.book in record { few_buses = s.few_buses; few_branches = s.few_branches }
 
 pub move_buses-requires : goal.move_buses-requires
-move_buses-requires c =
-    let small : Small c.args.h = small_head _ _ c.requires.head c.requires.book in
-    small
+move_buses-requires c = small_head _ _ c.requires.head c.requires.book
 
 pub move_branches-requires : goal.move_branches-requires
-move_branches-requires c =
-    let small : Small c.args.h = small_head _ _ c.requires.head c.requires.book in
-    small
+move_branches-requires c = small_head _ _ c.requires.head c.requires.book
 
 pub returns : goal.returns
 returns c =

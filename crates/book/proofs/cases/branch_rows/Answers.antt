@@ -16,7 +16,7 @@ overflow_cast-second c =
 
 pub loop-k-preserved : goal.loop-k-preserved
 loop-k-preserved c =
-    branching_more _ _ _ _ _ _ _ _ _ _ _ _ _ _ _ c.loop-k-test.true c.requires.1 c.loop-k.invariant
+    branching_more _ _ _ _ _ _ _ _ _ _ _ _ _ _ _ c.loop-k-test.true c.requires.0.few_branches c.loop-k.invariant
     c.branch_at-x.ensures c.limit.ensures c.limit-in-loop-k.ensures
 
 pub returns : goal.returns

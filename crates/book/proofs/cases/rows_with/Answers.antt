@@ -8,7 +8,7 @@ bus_rows-requires c = (head_in_range _ _ c.requires.0 c.requires.1).few_buses
 pub branch_rows-requires : goal.branch_rows-requires
 branch_rows-requires c =
     let r = head_in_range _ _ c.requires.0 c.requires.1 in
-    (r.few_buses, r.few_branches, r.small_factor, c.requires.2)
+    (record { few_buses = r.few_buses; few_branches = r.few_branches }, r.small_factor, c.requires.2)
 
 pub returns : goal.returns
 returns c =
