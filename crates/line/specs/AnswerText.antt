@@ -1,9 +1,7 @@
 -- The text of a group, of a place and of an answer.
-use Rattle.std.specs.Prelude.{cond, List, [], ◌++◌, ℕ}
+use Rattle.std.specs.Prelude.{cond, List, [], ◌++◌, ℕ, Option, Some, None}
 use Rattle.answer.specs.declared.Place.{Place}
-use Rattle.answer.specs.declared.Place.TheVariants.{Nowhere, At}
-use Rattle.answer.specs.declared.Answer.{Answer}
-use Rattle.answer.specs.Answer.{number_of, shortage_of, place_of}
+use Rattle.answer.specs.Answer.{Answer, number_of, shortage_of, group_of, place_of}
 use Rattle.rows.specs.Bit.{has}
 use Rattle.rows.specs.Sum.{Group, size}
 use Rattle.line.specs.Text.{next_of, joined}
@@ -17,10 +15,10 @@ abbrev pub group_text : List ℕ → List ℕ
 group_text group = members_text 128 (has group)
 
 -- The item and the field of a place, and nothing where there is none.
-abbrev pub place_text : Place → List ℕ
-place_text Nowhere = []
-place_text (At item field) = next_of item ++ next_of field
+abbrev pub place_text : Option Place → List ℕ
+place_text None = []
+place_text (Some at) = next_of at.item ++ next_of at.field
 
 -- The number, the shortage, the group, the place.
 abbrev pub answer_text : Answer → List ℕ
-answer_text r = next_of (number_of r.outcome) ++ (next_of (shortage_of r.outcome) ++ (group_text r.group ++ place_text (place_of r.outcome)))
+answer_text r = next_of (number_of r) ++ (next_of (shortage_of r) ++ (group_text (group_of r) ++ place_text (place_of r)))

@@ -8,15 +8,14 @@ fn main(rt: HostRuntime) -> io::Result<()> {
     let mut input = [0u8; 16384];
     let mut stdin = rt.stdin();
     let n = read_full(&mut stdin, &mut input)?;
-    let mut at: usize = 0;
-    while at + 2 <= n {
-        let start = at + 2;
-        let end = start + rows::two(&input, at);
-        if n < end {
+    let mut rest = &input[..n];
+    while let Some((size, after)) = rest.split_first_chunk::<2>() {
+        let size = usize::from(u16::from_be_bytes(*size));
+        let Some((book, others)) = after.split_at_checked(size) else {
             return Ok(());
-        }
-        printing::print_list(&rt, &input[start..end])?;
-        at = end;
+        };
+        printing::print_list(&rt, book)?;
+        rest = others;
     }
     Ok(())
 }

@@ -5,10 +5,7 @@ use Prim.Native.Nat.{ℕ, ◌+◌, ◌*◌, ◌<◌, ◌≤◌}
 use native.Mathlib.Omega.{arith}
 use lib.IntN.{pos}
 use lib.ListN.{length, replicate, length-append}
-use Rattle.answer.specs.declared.Answer.{Answer}
-use Rattle.answer.specs.declared.Outcome.{Outcome}
-use Rattle.answer.specs.declared.Outcome.TheVariants.{Accepted}
-use Rattle.answer.specs.Answer.{settled}
+use Rattle.answer.specs.Answer.{Answer, Accepted, settled}
 use Rattle.answer.proofs.Refusals.{leaves}
 use Rattle.layout.specs.Layout.{branches_in}
 use Rattle.verdict.specs.Update.{Lent}
@@ -60,19 +57,19 @@ module _ (bs table : List ℕ) where
 
 -- ---- The whole list, by how the screen ended.
 module _ {bs : List ℕ} {after : Lent} {r : Answer} (ends : ScreenEnds 100 (lent bs (replicate 256 (pos 0)) (replicate 13312 0)) after r) where
-  pub listable : r.outcome ≡ Accepted → Listable bs after.table
+  pub listable : r ≡ Accepted → Listable bs after.table
   listable e = let d = accepted_screen ends e in record { branches_few = d.passes.flow_room; table_long = d.screened.beyond.table_long }
 
-  pub printed_refused : (r.outcome ≡ Accepted → ⊥) → {n : ℕ} → Handed (refused_text r) 2759 n → Printed bs (record { answer = r; length = n })
+  pub printed_refused : (r ≡ Accepted → ⊥) → {n : ℕ} → Handed (refused_text r) 2759 n → Printed bs (record { answer = r; length = n })
   printed_refused not h = record {
     after = after;
     ends = ends;
-    long = h.whole ∙ ap length (sym (leaves r.outcome (line_of (refused_text r)) (accepted_text bs after.table) not));
+    long = h.whole ∙ ap length (sym (leaves r (line_of (refused_text r)) (accepted_text bs after.table) not));
   }
 
-  pub printed_accepted : r.outcome ≡ Accepted → {n : ℕ} → n ≡ length (accepted_text bs after.table) → Printed bs (record { answer = r; length = n })
+  pub printed_accepted : r ≡ Accepted → {n : ℕ} → n ≡ length (accepted_text bs after.table) → Printed bs (record { answer = r; length = n })
   printed_accepted e h = record {
     after = after;
     ends = ends;
-    long = h ∙ ap (λ (o : Outcome). length (settled o (line_of (refused_text r)) (accepted_text bs after.table))) (sym e);
+    long = h ∙ ap (λ (o : Answer). length (settled o (line_of (refused_text r)) (accepted_text bs after.table))) (sym e);
   }

@@ -9,12 +9,9 @@ use lib.Dec.{eqb}
 use lib.IntN.{ℤ}
 use Rattle.rows.specs.Row.{member}
 use Rattle.rows.specs.Sum.{Group}
+use Rattle.std.specs.Prelude.{Option}
 use Rattle.answer.specs.declared.Place.{Place}
-use Rattle.answer.specs.declared.Place.TheVariants.{At}
-use Rattle.answer.specs.declared.Answer.{Answer}
-use Rattle.answer.specs.declared.Outcome.{Outcome}
-use Rattle.answer.specs.declared.Outcome.TheVariants.{Accepted}
-use Rattle.answer.specs.Answer.{number_of, place_of, SaidBy, settled}
+use Rattle.answer.specs.Answer.{Answer, Accepted, At, SaidBy, number_of, place_of, settled}
 use Rattle.answer.proofs.Numbers.{gives_not}
 use Rattle.answer.proofs.Refusals.{leaves, at_not_nowhere}
 use Rattle.layout.specs.Layout.{buses_in, branches_in}
@@ -75,10 +72,10 @@ plain_branch table k =
     rec : List ℕ
     rec = record_at table k
 
-accepted_is : (bs : List ℕ) (r : Answer) (table : List ℕ) → r.outcome ≡ Accepted → list_text bs r table ≡ accepted_text bs table
-accepted_is bs r table e = ap (λ (o : Outcome). settled o (line_of (refused_text r)) (accepted_text bs table)) e
+accepted_is : (bs : List ℕ) (r : Answer) (table : List ℕ) → r ≡ Accepted → list_text bs r table ≡ accepted_text bs table
+accepted_is bs r table e = ap (λ (o : Answer). settled o (line_of (refused_text r)) (accepted_text bs table)) e
 
-module _ (bs : List ℕ) (r : Answer) (table : List ℕ) (ok : r.outcome ≡ Accepted) where
+module _ (bs : List ℕ) (r : Answer) (table : List ℕ) (ok : r ≡ Accepted) where
   pub head_line : line_at 0 (list_text bs r table) ≡ head_text bs
   head_line = rw (accepted_is bs r table ok) (first_line (head_text bs) _ (plain_head bs))
 
@@ -92,13 +89,13 @@ module _ (bs : List ℕ) (r : Answer) (table : List ℕ) (ok : r.outcome ≡ Acc
 -- ---- An accepted book.
 module _ {percent : ℕ} {bs : List ℕ} {flow : List ℤ} {table : List ℕ} {after : Lent} {r : Answer}
     (ends : ScreenEnds percent (lent bs flow table) after r) where
-  few : r.outcome ≡ Accepted → (case_in percent bs).buses ≤ 128
+  few : r ≡ Accepted → (case_in percent bs).buses ≤ 128
   few ok = (posed_passed (accepted_screen ends ok).passes).few_buses
 
-  told : (ok : r.outcome ≡ Accepted) (k : ℕ) → k < branches_in bs → Told (case_in percent bs) (on after.flow) k (record_at after.table k)
+  told : (ok : r ≡ Accepted) (k : ℕ) → k < branches_in bs → Told (case_in percent bs) (on after.flow) k (record_at after.table k)
   told ok k l = ((accepted_screen ends ok).screened.table_true.each k (rw (branches_of percent bs) l)).told
 
-  module _ (ok : r.outcome ≡ Accepted) (k : ℕ) (l : k < branches_in bs) where
+  module _ (ok : r ≡ Accepted) (k : ℕ) (l : k < branches_in bs) where
     shown : (t : List ℕ) → shown_text (record_at after.table k) ≡ t → line_at (suc k) (list_text bs r after.table) ≡ decimal_of k ++ t
     shown t e = branch_line bs r after.table ok k l ∙ ap (λ (x : List ℕ). decimal_of k ++ x) e
 
@@ -126,7 +123,7 @@ module _ {percent : ℕ} {bs : List ℕ} {flow : List ℤ} {table : List ℕ} {a
         ∙ ap (λ (m : ℕ). decimal_of k ++ (islands_word ++ short_over m v S)) (case_buses percent bs)
 
 -- ---- A refused book.
-said_by_check : (o : Outcome) {r : Answer} → SaidBy o r → (number_of o ≡ 12 → ⊥)
+said_by_check : (o : Answer) {r : Answer} → SaidBy o r → (number_of o ≡ 12 → ⊥)
     → refused_text r ≡ refused_word ++ (next_of (number_of o) ++ place_text (place_of o))
 said_by_check o {r} s h = ap (λ (t : List ℕ). refused_word ++ t) (sym (reason_other r (sym s.number_is) h (sym s.place_is)))
 
@@ -144,18 +141,18 @@ module _ {percent : ℕ} {bs : List ℕ} {flow : List ℤ} {table : List ℕ} {a
       (next_of (number_of (screen_check percent (lent bs flow table))) ++ place_text (place_of (screen_check percent (lent bs flow table)))))
   unfolding member
   refused_line (refuses n a k) h =
-      leaves r.outcome _ _ (λ e. n (passing _ _ _ (accepted_screen (refuses n a k) e).passes))
+      leaves r _ _ (λ e. n (passing _ _ _ (accepted_screen (refuses n a k) e).passes))
       ∙ ap line_of (said_by_check (screen_check percent (lent bs flow table)) a
       (gives_not lent_numbers (screen_check percent (lent bs flow table)) 12 (lent_gives _ _ _ _) refl (λ z. omega arith)))
   refused_line (overloads c o k) h = absurd (h c)
   refused_line (accepts c a s) h = absurd (h c)
 
   -- An answer with a place: the number, the item and the field.
-  pub wrong_line : ScreenEnds percent (lent bs flow table) after r → {i j : ℕ} → place_of r.outcome ≡ At i j
-      → list_text bs r after.table ≡ line_of (refused_word ++ (next_of (number_of r.outcome) ++ (next_of i ++ next_of j)))
+  pub wrong_line : ScreenEnds percent (lent bs flow table) after r → {i j : ℕ} → place_of r ≡ At i j
+      → list_text bs r after.table ≡ line_of (refused_word ++ (next_of (number_of r) ++ (next_of i ++ next_of j)))
   wrong_line (refuses n a k) e =
       refused_line (refuses n a k) n
-      ∙ ap₂ {C = List ℕ} (λ (m : ℕ) (p : Place). line_of (refused_word ++ (next_of m ++ place_text p))) (sym a.number_is) (sym a.place_is ∙ e)
+      ∙ ap₂ {C = List ℕ} (λ (m : ℕ) (p : Option Place). line_of (refused_word ++ (next_of m ++ place_text p))) (sym a.number_is) (sym a.place_is ∙ e)
   wrong_line (overloads c o k) e = absurd (at_not_nowhere o.answer.place_is e)
   wrong_line (accepts c a s) e = absurd (at_not_nowhere a.place_is e)
 
@@ -165,7 +162,7 @@ module _ {percent : ℕ} {bs : List ℕ} {flow : List ℤ} {table : List ℕ} {a
       → list_text bs r after.table ≡ line_of (refused_word ++ (next_of 12 ++ (next_of v ++ members_text (buses_in bs) S)))
   overload_line (refuses n a k) c v S s = absurd (n c)
   overload_line (overloads c o k) c' v S s =
-      leaves r.outcome _ _ (λ e. absurd (omega (arith, o.answer.number_is, number_zero e)))
+      leaves r _ _ (λ e. absurd (omega (arith, o.answer.number_is, number_zero e)))
       ∙ ap line_of (over_said (case_in percent bs) (posed_passed (passed _ _ _ c)).few_buses o v S s)
       ∙ ap (λ (n : ℕ). line_of (refused_word ++ (next_of 12 ++ short_over n v S))) (case_buses percent bs)
   overload_line (accepts c a x) c' v S s = absurd (never_over _ c x v S s)

@@ -4,8 +4,7 @@ use mathlib.Core.List.{List, ◌++◌}
 use Prim.Native.Nat.{ℕ, ◌≤◌, ◌<◌}
 use lib.ListN.{length}
 use Rattle.rows.specs.Bit.{has}
-use Rattle.answer.specs.declared.Answer.{Answer}
-use Rattle.answer.specs.Answer.{settled}
+use Rattle.answer.specs.Answer.{Answer, settled}
 use Rattle.answer.proofs.Said.{said_same}
 use Rattle.layout.specs.Layout.{branches_in}
 use Rattle.verdict.specs.Record.{record_at}
@@ -60,7 +59,7 @@ module _ {percent : ℕ} {before one two : Lent} {r s : Answer} where
       let t = accepted_same percent before.book (posed_passed (passed _ _ _ c)).few_buses x y in
       record {
         answers = e;
-        texts = ap (λ (q : Answer). list_text before.book q one.table) e ∙ ap (λ (l : List ℕ). settled s.outcome (line_of (refused_text s)) l) t;
+        texts = ap (λ (q : Answer). list_text before.book q one.table) e ∙ ap (λ (l : List ℕ). settled s (line_of (refused_text s)) l) t;
       }
 
 module _ {bs : List ℕ} {r s : Printout} (p : Printed bs r) (q : Printed bs s) where

@@ -4,9 +4,12 @@ use mathlib.Core.List.{List, ◌++◌}
 use mathlib.Core.Logic.{◌≢◌}
 use Prim.Native.Nat.{ℕ}
 use borrow.Author.Tests.{eq-eqb, ne_eqb}
+use Rattle.std.specs.Prelude.{Option}
 use Rattle.answer.specs.declared.Place.{Place}
-use Rattle.answer.specs.declared.Answer.{Answer}
-use Rattle.answer.specs.Answer.{number_of, shortage_of, place_of}
+use Rattle.std.proofs.Common.{Err}
+use Rattle.answer.specs.declared.Refusal.{Refusal}
+use Rattle.answer.specs.declared.Refusal.TheVariants.{WrongLength, CountsOutside, HeaderFill, BusWrong, BranchWrong, TailFill, NotBalanced, TooShort, NoSuchBranch, AlreadyOut, FlowUnfit, Overloaded, ListsUneven, NoSuchSupply, AdvanceTooFar, SupplyOutside, AlreadyIn, RatingsLost, NoTwoBuses, InjectionOutside, PercentOutside}
+use Rattle.answer.specs.Answer.{Answer, number, place, number_of, shortage_of, group_of, place_of}
 use Rattle.layout.specs.declared.Head.{Head}
 use Rattle.layout.specs.Inside.{HeadRead}
 use Rattle.verdict.specs.Record.{record_at, verdict_in}
@@ -42,8 +45,32 @@ module _ {rec : List ℕ} {s : Entry} (r : Read rec s) where
       (rw (r.verdict_is, r.shortage_is, r.group_is) refl)
 
 module _ (r : Answer) where
-  pub reason_twelve : {n kw : ℕ} → n ≡ number_of r.outcome → n ≡ 12 → kw ≡ shortage_of r.outcome → next_of n ++ short_text kw r.group ≡ reason_text r
-  reason_twelve e h f = rw (e, f, eq-eqb (number_of r.outcome) 12 (sym e ∙ h)) refl
+  pub reason_twelve : {n kw : ℕ} → n ≡ number_of r → n ≡ 12 → kw ≡ shortage_of r → next_of n ++ short_text kw (group_of r) ≡ reason_text r
+  reason_twelve e h f = rw (e, f, eq-eqb (number_of r) 12 (sym e ∙ h)) refl
 
-  pub reason_other : {n : ℕ} {p : Place} → n ≡ number_of r.outcome → n ≢ 12 → p ≡ place_of r.outcome → next_of n ++ place_text p ≡ reason_text r
-  reason_other e h f = rw (e, f, ne_eqb (number_of r.outcome) 12 (λ q. h (e ∙ q))) refl
+  pub reason_other : {n : ℕ} {p : Option Place} → n ≡ number_of r → n ≢ 12 → p ≡ place_of r → next_of n ++ place_text p ≡ reason_text r
+  reason_other e h f = rw (e, f, ne_eqb (number_of r) 12 (λ q. h (e ∙ q))) refl
+
+-- Every reason but 12 shows its number and its place.
+pub reason_placed : (why : Refusal) → ((kw : ℕ) (bytes : List ℕ) → why ≡ Overloaded kw bytes → ⊥) → next_of (number why) ++ place_text (place why) ≡ reason_text (Err why)
+reason_placed WrongLength h = refl
+reason_placed CountsOutside h = refl
+reason_placed HeaderFill h = refl
+reason_placed (BusWrong at) h = refl
+reason_placed (BranchWrong at) h = refl
+reason_placed TailFill h = refl
+reason_placed NotBalanced h = refl
+reason_placed TooShort h = refl
+reason_placed NoSuchBranch h = refl
+reason_placed AlreadyOut h = refl
+reason_placed FlowUnfit h = refl
+reason_placed (Overloaded kw bytes) h = absurd (h kw bytes refl)
+reason_placed ListsUneven h = refl
+reason_placed NoSuchSupply h = refl
+reason_placed AdvanceTooFar h = refl
+reason_placed SupplyOutside h = refl
+reason_placed AlreadyIn h = refl
+reason_placed RatingsLost h = refl
+reason_placed NoTwoBuses h = refl
+reason_placed InjectionOutside h = refl
+reason_placed PercentOutside h = refl

@@ -1,7 +1,6 @@
 -- The text of each line of document 01's list, without its newline.
 use Rattle.std.specs.Prelude.{cond, List, [], ◌∷◌, ◌++◌, ℕ, eqb, take, drop}
-use Rattle.answer.specs.declared.Answer.{Answer}
-use Rattle.answer.specs.Answer.{number_of, shortage_of, place_of}
+use Rattle.answer.specs.Answer.{Answer, number_of, shortage_of, group_of, place_of}
 use Rattle.layout.specs.Layout.{buses_in, branches_in}
 use Rattle.verdict.specs.Record.{record_at, verdict_in, shortage_in}
 use Rattle.line.specs.Text.{decimal_of, next_of}
@@ -49,8 +48,8 @@ branch_text table k = decimal_of k ++ shown_text (record_at table k)
 -- The number of the refusal; for 12 also shortage and group, for 4 and 5 also the place.
 abbrev pub reason_text : Answer → List ℕ
 reason_text r =
-    next_of (number_of r.outcome)
-    ++ cond (eqb (number_of r.outcome) 12) (short_text (shortage_of r.outcome) r.group) (place_text (place_of r.outcome))
+    next_of (number_of r)
+    ++ cond (eqb (number_of r) 12) (short_text (shortage_of r) (group_of r)) (place_text (place_of r))
 
 abbrev pub refused_text : Answer → List ℕ
 refused_text r = refused_word ++ reason_text r

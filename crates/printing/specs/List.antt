@@ -1,7 +1,6 @@
 -- The whole list of a book, and what printing it promises.
 use Rattle.std.specs.Prelude.{◌≡◌, cond, List, [], ◌∷◌, ◌++◌, ℕ, zero, suc, eqb, pos, length, replicate}
-use Rattle.answer.specs.declared.Answer.{Answer}
-use Rattle.answer.specs.Answer.{settled}
+use Rattle.answer.specs.Answer.{Answer, settled}
 use Rattle.layout.specs.Layout.{branches_in}
 use Rattle.verdict.specs.Update.{Lent}
 use Rattle.state.specs.Call.{lent}
@@ -20,7 +19,7 @@ accepted_text bs table = line_of (head_text bs) ++ joined (branches_in bs) (λ k
 
 -- A refused book gives one line: `settled` takes the second text where the answer is accepted, and else the first.
 abbrev pub list_text : List ℕ → Answer → List ℕ → List ℕ
-list_text bs r table = settled r.outcome (line_of (refused_text r)) (accepted_text bs table)
+list_text bs r table = settled r (line_of (refused_text r)) (accepted_text bs table)
 
 -- Line n of a text, counted from 0: the bytes past n newlines and before the next.
 unfoldable pub line_at : ℕ → List ℕ → List ℕ

@@ -2,14 +2,14 @@
 // once. A call whose write fails writes no more, and answers with that error.
 #![tactic(auto)]
 
-ghost use Rattle.std.specs.Prelude.{◌≡◌, ◌+◌, ◌*◌, ◌≤◌, length, IfOk};
+ghost use Rattle.std.specs.Prelude.{◌≡◌, ◌+◌, ◌*◌, ◌≤◌, length, IfOk, Err};
 ghost use Rattle.printing.specs.Lines.{head_text, branch_text, refused_text};
 ghost use Rattle.printing.specs.List.{accepted_text, Printed};
 ghost use Rattle.printing.specs.Inside.{Handed, Listable};
 
 mod lines;
 
-use answer::{Answer, Outcome};
+use answer::{Answer, Refusal};
 use line::write_line;
 use lines::{put_branch, put_head, put_refused};
 use std::io;
@@ -21,6 +21,7 @@ pub struct Printout {
     pub length: usize,
 }
 
+// One function a line, each with room for its own longest text: with the builder lent as a closure that room and its promise would be parameters too.
 fn print_head<R: Print>(rt: &R, book: &[u8]) -> io::Result<usize>
     ensures { IfOk result (λ n. Handed (head_text book.now) 42 n) }
 {
@@ -38,11 +39,11 @@ fn print_branch<R: Print>(rt: &R, table: &[u8], k: usize) -> io::Result<usize>
     write_line(rt, &mut out, end)
 }
 
-fn print_refused<R: Print>(rt: &R, answer: Answer) -> io::Result<usize>
-    ensures { IfOk result (λ n. Handed (refused_text answer) 2759 n) }
+fn print_refused<R: Print>(rt: &R, why: Refusal) -> io::Result<usize>
+    ensures { IfOk result (λ n. Handed (refused_text (Err why)) 2759 n) }
 {
     let mut out = [0u8; 2759];
-    let end = put_refused(&mut out, answer);
+    let end = put_refused(&mut out, why);
     write_line(rt, &mut out, end)
 }
 
@@ -51,13 +52,10 @@ fn list<R: Print>(rt: &R, book: &[u8], table: &[u8]) -> io::Result<usize>
     requires { Listable book.now table.now }
     ensures { IfOk result (λ n. n ≡ length (accepted_text book.now table.now)) }
 {
-    let head = layout::head_of(book);
-    let branches = head.branches;
+    let branches = layout::head_of(book).branches;
     let mut length = print_head(rt, book)?;
-    let mut k: usize = 0;
-    while k < branches {
+    for k in 0..branches {
         length += print_branch(rt, table, k)?;
-        k += 1;
     }
     Ok(length)
 }
@@ -69,11 +67,9 @@ pub fn print_list<R: Print>(rt: &R, book: &[u8]) -> io::Result<Printout>
     let mut flow = [0i32; 256];
     let mut table = [0u8; 13312];
     let answer = screen::screen(100, book, &mut flow, &mut table);
-    let outcome = answer.outcome;
-    let Outcome::Accepted = outcome else {
-        let length = print_refused(rt, answer)?;
-        return Ok(Printout { answer, length });
+    let length = match answer {
+        Ok(()) => list(rt, book, &table)?,
+        Err(why) => print_refused(rt, why)?,
     };
-    let length = list(rt, book, &table)?;
     Ok(Printout { answer, length })
 }

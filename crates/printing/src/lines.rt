@@ -1,9 +1,9 @@
 // The lines of document 01's list, each built in lent bytes from their first place on: where it ends comes back.
-ghost use Rattle.std.specs.Prelude.{◌+◌, ◌*◌, ◌≤◌, length};
+ghost use Rattle.std.specs.Prelude.{◌+◌, ◌*◌, ◌≤◌, length, Err};
 ghost use Rattle.line.specs.Inside.{Added};
 ghost use Rattle.printing.specs.Lines.{head_text, short_text, missing_word, branch_text, refused_text};
 
-use answer::{Answer, number_of, place_of, shortage_of};
+use answer::Refusal;
 use line::{put, put_decimal, put_group, put_next, put_place};
 
 // The counts as the book's header has them.
@@ -23,7 +23,7 @@ fn put_short(out: &mut [u8], at: usize, shortage: u32, group: [u8; 16]) -> usize
     ensures added { Added (short_text shortage group) out.old at out.new result }
     ensures upper_bound { result ≤ at + 2730 }
 {
-    let after = put_next(out, at, shortage as u64);
+    let after = put_next(out, at, u64::from(shortage));
     put_group(out, after, group)
 }
 
@@ -33,10 +33,10 @@ fn put_missing(out: &mut [u8], at: usize, verdict: u8) -> usize
     ensures added { Added (missing_word verdict) out.old at out.new result }
     ensures upper_bound { result ≤ at + 8 }
 {
-    if verdict == 2 {
-        return put(out, at, b" short");
+    match verdict {
+        2 => put(out, at, b" short"),
+        _ => put(out, at, b" islands"),
     }
-    put(out, at, b" islands")
 }
 
 // What the record of branch k shows: its stretch of the table is cut and read here, so that no number of another branch can stand beside it.
@@ -46,31 +46,27 @@ pub fn put_branch(out: &mut [u8], table: &[u8], k: usize) -> usize
     ensures upper_bound { result ≤ 2758 }
 {
     let entry = record::read(record::stretch(table, k));
-    let verdict = entry.verdict;
-    let group = entry.group;
     let after_number = put_decimal(out, 0, k as u64);
-    if verdict == 0 {
-        return put(out, after_number, b" out");
+    match entry.verdict {
+        0 => put(out, after_number, b" out"),
+        1 => put(out, after_number, b" carries"),
+        verdict => {
+            let after_word = put_missing(out, after_number, verdict);
+            let group = entry.group;
+            put_short(out, after_word, entry.shortage, group)
+        }
     }
-    if verdict == 1 {
-        return put(out, after_number, b" carries");
-    }
-    let after_word = put_missing(out, after_number, verdict);
-    put_short(out, after_word, entry.shortage, group)
 }
 
-pub fn put_refused(out: &mut [u8], answer: Answer) -> usize
+pub fn put_refused(out: &mut [u8], why: Refusal) -> usize
     requires { 2758 ≤ length out.old }
-    ensures added { Added (refused_text answer) out.old 0 out.new result }
+    ensures added { Added (refused_text (Err why)) out.old 0 out.new result }
     ensures upper_bound { result ≤ 2758 }
 {
-    let outcome = answer.outcome;
-    let group = answer.group;
-    let number = number_of(outcome);
     let after_word = put(out, 0, b"refused");
-    let after_number = put_next(out, after_word, number as u64);
-    if number == 12 {
-        return put_short(out, after_number, shortage_of(outcome), group);
+    let after_number = put_next(out, after_word, u64::from(why.number()));
+    match why {
+        Refusal::Overloaded { kw, group } => put_short(out, after_number, kw, group),
+        _ => put_place(out, after_number, why.place()),
     }
-    put_place(out, after_number, place_of(outcome))
 }

@@ -9,7 +9,7 @@ use lib.ListN.{length, drop, replicate}
 use lib.Seq.{get_or-take, get_or-drop, ext_get_or}
 use Rattle.rows.specs.Row.{nth, up_to, headed}
 use Rattle.rows.proofs.Row.{length_up_to, get_d_up_to, length_headed, headed_at}
-use Rattle.answer.specs.declared.Answer.{Answer}
+use Rattle.answer.specs.Answer.{Answer}
 use Rattle.meters.specs.Registers.{Registers, registers}
 use Rattle.meters.specs.Promise.{Metered}
 use Rattle.spaces.specs.InsideStream.{four_at}

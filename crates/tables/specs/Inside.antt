@@ -2,8 +2,7 @@
 -- nothing is changed.
 use Rattle.std.specs.Prelude.{◌≡◌, Bool, true, false, ◌&&◌, List, ℕ, ◌+◌, ◌*◌, ◌≤◌, leb, ℤ, length, take, drop, Option, Some, None}
 use Rattle.rows.specs.Row.{nth, two_at, up_to}
-use Rattle.answer.specs.declared.Outcome.TheVariants.{Accepted}
-use Rattle.answer.specs.declared.Answer.{Answer}
+use Rattle.answer.specs.Answer.{Answer, Accepted}
 use Rattle.layout.specs.declared.Form.{Form}
 use Rattle.layout.specs.Form.{form_of}
 use Rattle.layout.specs.Layout.{bytes_for}
@@ -45,8 +44,8 @@ pub record WrittenInto (f : Form) (n m factor : ℕ) (injections : List ℤ) (br
   pub answer : Answer
   pub written : BookWritten f n m factor injections branches (take room book) (take room book') answer
   pub kept : drop room book' ≡ drop room book
-  pub if_accepted : answer.outcome ≡ Accepted → bytes' ≡ bytes_for f n m
-  pub if_refused : (answer.outcome ≡ Accepted → ⊥) → bytes' ≡ bytes
+  pub if_accepted : answer ≡ Accepted → bytes' ≡ bytes_for f n m
+  pub if_refused : (answer ≡ Accepted → ⊥) → bytes' ≡ bytes
   pub within : bytes' ≤ length book
 
 -- Any counts and factor may be named.

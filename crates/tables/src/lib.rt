@@ -9,7 +9,7 @@ ghost use Rattle.meters.specs.Promise.{Metered};
 ghost use Rattle.spaces.specs.InsideStream.{four_at};
 ghost use Rattle.tables.specs.Inside.{taken, ReadRun, WriteAsked, write_good, WriteRun, MoveRun, ListsAsked, registers_in, meters_size, MetersRun};
 
-use answer::{Answer, Outcome};
+use answer::Answer;
 use layout::Form;
 use line::{answer_line, hex_line, list_line};
 use rows::{two, wide};
@@ -102,8 +102,7 @@ fn write(
         &branches[..asked.branches],
         &mut book[..asked.room],
     );
-    let outcome = answer.outcome;
-    if let Outcome::Accepted = outcome {
+    if answer.is_ok() {
         *bytes = layout::bytes_for(form, asked.buses, asked.count);
     }
     Some(answer)
@@ -141,7 +140,7 @@ fn shelve(rest: &[u8], book: &[u8], shelf: &mut [u8]) -> Option<Answer>
         return None;
     }
     let room = number_at(rest, 2, shelf.len())?;
-    Some(forms::move_book(book, layout::form_of(u32::from(form)), &mut shelf[..room]))
+    Some(forms::move_book(book, Form::from(u32::from(form)), &mut shelf[..room]))
 }
 
 // `L`.

@@ -8,7 +8,7 @@ use lib.ListN.{length, take, drop}
 use lib.Seq.{take_at}
 use Rattle.std.proofs.lemmas.List.{length-take}
 use Rattle.std.proofs.lemmas.Slice.{drop-append-drop}
-use Rattle.answer.specs.declared.Answer.{Answer}
+use Rattle.answer.specs.Answer.{Answer}
 use Rattle.verdict.specs.Update.{Lent}
 use Rattle.state.specs.Call.{lent}
 use Rattle.trial.specs.InsideCalls.{Called}

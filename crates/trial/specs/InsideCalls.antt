@@ -1,7 +1,7 @@
 -- What the commands on a book with its flow and table do, and which command a letter makes.
 use Rattle.std.specs.Prelude.{◌≡◌, Bool, ◌&&◌, List, ℕ, leb, length, take, drop, Option, Some, None}
 use Rattle.rows.specs.Row.{two_at}
-use Rattle.answer.specs.declared.Answer.{Answer}
+use Rattle.answer.specs.Answer.{Answer}
 use Rattle.verdict.specs.Update.{Lent}
 use Rattle.state.specs.Call.{lent}
 use Rattle.screen.specs.Promise.{ScreenEnds}

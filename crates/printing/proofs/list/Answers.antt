@@ -8,5 +8,5 @@ loop-k-init g c = printing_none _ _ c.in_ok-length.ensures
 
 pub loop-k-preserved : goal.loop-k-preserved
 loop-k-preserved g c =
-    let head = c.head_of-head.ensures in
+    let head = c.head_of-branches.ensures in
     printing_more _ _ c.loop-k.invariant (omega (arith, c.loop-k-test.true, head.branches_are)) c.in_ok-length-2.ensures

@@ -1,24 +1,19 @@
 -- `put_refused` adds the number of a refusal, for 12 the shortage and the group, and else its place.
-use native.Mathlib.Omega.{arith}
+use mathlib.Core.Path.{sym, ap}
+use Rattle.std.proofs.Common.{Err}
+use Rattle.answer.specs.declared.Refusal.{Refusal}
 use Rattle.line.proofs.Adding.{added_same, added_then}
-use Rattle.printing.proofs.Texts.{reason_twelve, reason_other}
+use Rattle.printing.specs.Lines.{refused_text}
+use Rattle.printing.proofs.Texts.{reason_placed}
 use Rattle.printing.proofs.lines.put_refused.Goals as goal
 
-pub returns-then-number-eq12 : goal.returns-then-number-eq12
-returns-then-number-eq12 c =
-    record {
-      added = added_then c.put-after_word.ensures
-          (added_same (reason_twelve c.args.answer c.number_of-number.ensures c.if-number-eq12.true c.shortage_of.ensures)
-          (added_then c.put_next-after_number.ensures.added c.put_short.ensures.added));
-      upper_bound = omega (arith, c.put-after_word.ensures.ends, c.put_next-after_number.ensures.upper_bound, c.put_short.ensures.upper_bound);
-    }
+pub returns-in-Overloaded-clause-added : goal.returns-in-Overloaded-clause-added
+returns-in-Overloaded-clause-added c =
+    let twelve = rw (c.from.ensures, c.number.ensures, c.in-Overloaded.is) at c.put_next-after_number.ensures.added in
+    added_same (sym (ap (λ (why : Refusal). refused_text (Err why)) c.in-Overloaded.is)) (added_then c.put-after_word.ensures (added_then twelve c.put_short.ensures.added))
 
-pub returns : goal.returns
-returns c =
-    record {
-      added = added_then c.put-after_word.ensures
-          (added_same
-          (reason_other c.args.answer c.number_of-number.ensures c.if-number-eq12.false c.place_of.ensures)
-          (added_then c.put_next-after_number.ensures.added c.put_place.ensures.added));
-      upper_bound = omega (arith, c.put-after_word.ensures.ends, c.put_next-after_number.ensures.upper_bound, c.put_place.ensures.upper_bound);
-    }
+pub returns-in_default-clause-added : goal.returns-in_default-clause-added
+returns-in_default-clause-added c =
+    let number = rw (c.from.ensures, c.number.ensures) at c.put_next-after_number.ensures.added in
+    added_then c.put-after_word.ensures
+    (added_same (reason_placed c.args.why c.in_default.not-Overloaded) (added_then number (rw c.place.ensures at c.put_place.ensures.added)))
