@@ -4,3 +4,4 @@ pub mod Window
 pub mod Fields
 pub mod Again
 pub mod Counting
+pub mod Marking

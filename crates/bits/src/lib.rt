@@ -1,11 +1,12 @@
 // Bits in a row of bytes, the most significant of a byte first: fields read and put, one bit made or tested, all of them counted.
 #![tactic(auto)]
 
-ghost use Rattle.std.specs.Prelude.{◌≡◌, ◌+◌, ◌<◌, ◌≤◌, ◌^◌};
+ghost use Rattle.std.specs.Prelude.{◌≡◌, ℕ, ◌+◌, ◌<◌, ◌≤◌, ◌^◌};
 ghost use Rattle.rows.specs.Row.{nth};
 ghost use Rattle.rows.specs.Bit.{has};
 ghost use Rattle.rows.specs.Sum.{size};
 ghost use Rattle.bits.specs.Field.{field, with_bit, set_bit, put};
+ghost use Rattle.bits.specs.Marked.{Marked};
 
 // Byte k, and 0 past the end.
 fn byte(s: &[u8], k: usize) -> u32
@@ -54,6 +55,20 @@ pub fn put(out: &mut [u8], at: usize, width: usize, v: u32)
         set_bit(out, at + i, (x % 2) as u8);
         x /= 2;
     }
+}
+
+// A row of 256 bits: of the first n, bit k is 1 exactly where f answers true of k; all others are 0.
+pub fn marked<F: Fn(usize) -> bool>(n: usize, f: F) -> [u8; 32]
+    requires { (n ≤ 256) × ((k : ℕ) → k < n → F.pre f k) }
+    ensures { Marked n (F.post f) result }
+{
+    let mut row = [0u8; 32];
+    for k in 0..n {
+        if f(k) {
+            set_bit(&mut row, k, 1);
+        }
+    }
+    row
 }
 
 // Whether bit k is 1.

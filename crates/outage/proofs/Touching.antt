@@ -14,7 +14,7 @@ use Rattle.bits.specs.Field.{set_bit}
 use Rattle.verdict.specs.Case.{Case}
 use Rattle.verdict.specs.Update.{Shortlisted}
 use Rattle.state.specs.Inside.{Differs, Changed, Listing, judged_of}
-use Rattle.state.proofs.Noting.{bit_noted, bit_left}
+use Rattle.bits.proofs.Marking.{bit_noted, bit_left}
 use Rattle.shortlist.specs.Inside.{listed_at}
 use Rattle.shortlist.proofs.Shortlisting.{shortlisted_listed, unlisted}
 use Rattle.outage.specs.Inside.{Marked}

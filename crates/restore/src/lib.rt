@@ -26,15 +26,7 @@ fn anew(table: &[u8], branches: usize, branch: usize) -> [u8; 32]
     requires { (branches ≤ 256) × (52 * branches ≤ length table.now) }
     ensures { Listing branches (anew_at table.now branch) result }
 {
-    let mut row = [0u8; 32];
-    let mut k: usize = 0;
-    while k < branches {
-        if is_anew(record::stretch(table, k), branch, k) {
-            bits::set_bit(&mut row, k, 1);
-        }
-        k += 1;
-    }
-    row
+    bits::marked(branches, |k| is_anew(record::stretch(table, k), branch, k))
 }
 
 // Refusals 21, 1 to 9, 17 and 11; accepted, one status bit is set, and the records that aren't carrying are written anew.

@@ -25,13 +25,7 @@ pub fn shortlist(table: &[u8], branches: usize, served: [bool; 256], touched: [u
     requires { (branches ≤ 256) × (52 * branches ≤ length table.now) }
     ensures { Listing branches (listed_at served touched table.now) result }
 {
-    let mut row = [0u8; 32];
-    let mut k: usize = 0;
-    while k < branches {
-        if is_listed(record::stretch(table, k), served[k], touched, k) {
-            bits::set_bit(&mut row, k, 1);
-        }
-        k += 1;
-    }
-    row
+    bits::marked(branches, |k| {
+        is_listed(record::stretch(table, k), served[k], touched, k)
+    })
 }

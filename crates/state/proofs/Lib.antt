@@ -11,4 +11,3 @@ pub mod OneOverload
 pub mod Checked
 pub mod ProperAnswer
 pub mod Surveying
-pub mod Noting

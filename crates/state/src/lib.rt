@@ -169,17 +169,7 @@ pub fn changed(branches: usize, before: [u32; 256], after: [u32; 256], but: usiz
     requires { branches ≤ 256 }
     ensures { Changed branches before after but result }
 {
-    let mut row = [0u8; 32];
-    let mut k: usize = 0;
-    while k < branches {
-        if k != but {
-            if before[k] != after[k] {
-                bits::set_bit(&mut row, k, 1);
-            }
-        }
-        k += 1;
-    }
-    row
+    bits::marked(branches, |k| k != but && before[k] != after[k])
 }
 
 // The verdict of a branch k that is short by its whole flow. If no other branch in service leaves the group, its loss would island; only otherwise a

@@ -1,28 +1,10 @@
--- The loop over the branches: each record is tested on its stretch.
-use native.Mathlib.Omega.{arith}
-use Rattle.state.proofs.Noting.{noting_none, noting_set, noting_skip, noting_all}
-use Rattle.restore.proofs.ToBeWritten.{tested}
+-- Each record is tested on its stretch.
+use borrow.Author.Rules.{rules}
+use Rattle.restore.specs.Inside.{anew_at}
 use Rattle.restore.proofs.anew.Goals as goal
-use Rattle.restore.proofs.anew.Goals.{then-is_anew, else-is_anew}
-
-pub loop-k-init : goal.loop-k-init
-loop-k-init c = noting_none _ _ _ c.requires.0 c.requires.1
-
-pub stretch-requires : goal.stretch-requires
-stretch-requires c = omega (arith, c.loop-k.invariant.room, c.loop-k-test.true)
-
-pub is_anew-requires : goal.is_anew-requires
-is_anew-requires c = c.stretch.ensures.long
-
-pub loop-k-preserved : goal.loop-k-preserved
-loop-k-preserved c =
-    let g = c.loop-k.invariant in
-    let s = c.stretch.ensures in
-    let u = c.loop-k-test.true in
-    elim c.if-is_anew.branch [
-      | then-is_anew w ↦ rw (w.row-is, w.set_bit.ensures) (noting_set _ _ _ g u (tested _ _ _ c.is_anew.ensures s.its_bytes w.if-is_anew.true))
-      | else-is_anew w ↦ rw w.row-is (noting_skip _ _ _ g u (tested _ _ _ c.is_anew.ensures s.its_bytes w.if-is_anew.false))
-    ]
 
 pub returns : goal.returns
-returns c = noting_all _ _ _ c.loop-k.invariant (omega (arith, c.loop-k.invariant.upto))
+unfolding anew_at
+returns c =
+    let m = c.marked.ensures in
+    record { bit = λ k u. let p = m.told k u in search rules }
