@@ -1,11 +1,11 @@
--- What `marked` promises.
+-- A row of 256 bits by what a test answers of each.
 use Rattle.std.specs.Prelude.{◌≡◌, Bool, false, List, ℕ, ◌<◌, ◌≤◌, length}
 use Rattle.rows.specs.Bit.{has}
 use Rattle.bits.specs.Field.{Bytes}
 
--- 32 bytes, of whose bits those below n are 1 where t is true, and no other is.
-pub record Marked (n : ℕ) (t : ℕ → Bool) (bits : List ℕ) : Type 0 where
-  pub long : length bits ≡ 32
-  pub bytes : Bytes bits
-  pub bit : (k : ℕ) → k < n → has bits k ≡ t k
-  pub beyond : (k : ℕ) → n ≤ k → has bits k ≡ false
+-- What the test may answer of k is bit k, for each k below n; no other bit is 1.
+pub record Marked (n : ℕ) (answers : ℕ → Bool → Type 0) (row : List ℕ) : Type 0 where
+  pub long : length row ≡ 32
+  pub bytes : Bytes row
+  pub told : (k : ℕ) → k < n → answers k (has row k)
+  pub beyond : (k : ℕ) → n ≤ k → has row k ≡ false

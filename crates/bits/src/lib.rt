@@ -1,11 +1,11 @@
 // Bits in a row of bytes, the most significant of a byte first: fields read and put, one bit made or tested, all of them counted.
 #![tactic(auto)]
 
-ghost use Rattle.std.specs.Prelude.{◌≡◌, Bool, ℕ, ◌+◌, ◌<◌, ◌≤◌, ◌^◌};
+ghost use Rattle.std.specs.Prelude.{◌≡◌, ◌+◌, ◌<◌, ◌≤◌, ◌^◌};
 ghost use Rattle.rows.specs.Row.{nth};
 ghost use Rattle.rows.specs.Bit.{has};
 ghost use Rattle.rows.specs.Sum.{size};
-ghost use Rattle.rows.specs.Inside.{Asked, Tells};
+ghost use Rattle.rows.specs.Inside.{Asked};
 ghost use Rattle.bits.specs.Inside.{Marked};
 ghost use Rattle.bits.specs.Field.{field, with_bit, set_bit, put};
 
@@ -60,9 +60,8 @@ pub fn put(out: &mut [u8], at: usize, width: usize, v: u32)
 
 // A row of 256 bits, of which those below n are 1 where `test` holds, and no other is.
 pub fn marked<F: Fn(usize) -> bool>(n: usize, test: F) -> [u8; 32]
-    requires few { n ≤ 256 }
-    requires asked { Asked n (F.pre test) }
-    ensures { (t : ℕ → Bool) → Tells n (F.post test) t → Marked n t result }
+    requires { (n ≤ 256) × Asked n (F.pre test) }
+    ensures { Marked n (F.post test) result }
 {
     let mut row = [0u8; 32];
     for k in 0..n {

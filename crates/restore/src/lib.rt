@@ -1,7 +1,7 @@
 // Bringing a branch back into service: the flow stays, and every record that didn't show its branch as carrying is written anew.
 #![tactic(auto)]
 
-ghost use Rattle.std.specs.Prelude.{◌≡◌, ◌+◌, ◌*◌, ◌<◌, ◌≤◌, length};
+ghost use Rattle.std.specs.Prelude.{◌≡◌, ◌*◌, ◌<◌, ◌≤◌, length};
 ghost use Rattle.state.specs.Call.{lent};
 ghost use Rattle.state.specs.Inside.{Listing};
 ghost use Rattle.restore.specs.Inside.{anew_if, anew_at};
@@ -24,12 +24,7 @@ fn anew(table: &[u8], branches: usize, branch: usize) -> [u8; 32]
     requires { (branches ≤ 256) × (52 * branches ≤ length table.now) }
     ensures { Listing branches (anew_at table.now branch) result }
 {
-    bits::marked(branches, |k| -> bool
-        requires { 52 * k + 52 ≤ length table.now }
-        ensures { result ≡ anew_at table.entry.now branch k }
-    {
-        is_anew(record::stretch(table, k), branch, k)
-    })
+    bits::marked(branches, |k| is_anew(record::stretch(table, k), branch, k))
 }
 
 // Refusals 21, 1 to 9, 17 and 11; accepted, one status bit is set, and the records that aren't carrying are written anew.

@@ -2,7 +2,7 @@
 // What is public here serves the calls alone, which meet what it requires.
 #![tactic(auto)]
 
-ghost use Rattle.std.specs.Prelude.{◌≡◌, ◌+◌, ◌*◌, ◌<◌, ◌≤◌, length};
+ghost use Rattle.std.specs.Prelude.{◌≡◌, ◌*◌, ◌≤◌, length};
 ghost use Rattle.state.specs.Inside.{Listing};
 ghost use Rattle.shortlist.specs.Inside.{listed_if, listed_at};
 
@@ -20,10 +20,7 @@ pub fn shortlist(table: &[u8], branches: usize, served: [bool; 256], touched: [u
     requires { (branches ≤ 256) × (52 * branches ≤ length table.now) }
     ensures { Listing branches (listed_at served touched table.now) result }
 {
-    bits::marked(branches, |k| -> bool
-        requires { (k < 256) × (52 * k + 52 ≤ length table.now) }
-        ensures { result ≡ listed_at served touched table.entry.now k }
-    {
+    bits::marked(branches, |k| {
         is_listed(record::stretch(table, k), served[k], touched, k)
     })
 }

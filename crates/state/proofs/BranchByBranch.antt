@@ -1,22 +1,23 @@
 -- Rows filled branch by branch: limits in service, and bits of changed branches.
 use mathlib.Core.Path.{◌≡◌, refl, sym, ◌∙◌}
-use mathlib.Core.Bool.{Bool, true, false, not, false≢true}
+use mathlib.Core.Bool.{Bool, true, false, not, ◌&&◌, true≢false}
 use mathlib.Core.List.{List}
 use Prim.Native.Nat.{ℕ, ◌+◌, ◌<◌, ◌≤◌}
 use native.Mathlib.Omega.{arith}
 use borrow.Author.Count.{below_more}
-use borrow.Author.Tests.{ne_eqb, eqb-false, not-true}
+use native.Mathlib.Decide.{dec_lt}
 use lib.Dec.{eqb}
-use Rattle.rows.proofs.Row.{both_true}
+use borrow.Author.Tests.{ne_eqb, eqb-false, not-true}
 use Rattle.bits.specs.Inside.{Marked}
 use lib.ListN.{length, get_or, set, length-set}
 use lib.Seq.{get_or-set_same, get_or-set_other}
 use Rattle.rows.specs.Row.{nth}
+use Rattle.rows.specs.Bit.{has}
 use Rattle.rows.specs.Sum.{pick}
-use Rattle.rows.proofs.Sum.{side, below, equal, above}
+use Rattle.rows.proofs.Row.{both_true}
 use Rattle.quantity.specs.declared.Kw.{Kw}
 use Rattle.quantity.specs.Inside.{kw_at}
-use Rattle.state.specs.Inside.{Live, Differs, Changed, differs_at}
+use Rattle.state.specs.Inside.{Live, Changed}
 use Rattle.state.proofs.TrueRecords.{none, none_at}
 
 -- ---- Limits in service.
@@ -55,20 +56,19 @@ module _ (n : ℕ) (served : List Bool) (limit : List Kw) where
   pub living_all : {live : List ℕ} {k : ℕ} → Living live k → k ≡ n → Live n served limit live
   living_all {live} {k} l e = record { in_service = λ j u. l.so_far j (omega arith); elsewhere = λ j u. l.beyond j (omega arith) }
 
--- ---- Bits of changed branches: those on which the test holds.
-pub changed_marked : (n : ℕ) (a b : List ℕ) (but : ℕ) (bits : List ℕ) → Marked n (differs_at a b but) bits → Changed n a b but bits
-changed_marked n a b but bits m = record {
+-- ---- Bits of changed branches.
+pub changed_by : {a b : List ℕ} {but n : ℕ} {row : List ℕ} → Marked n (λ k r. r ≡ (not (eqb k but) && not (eqb (nth a k) (nth b k)))) row → Changed n a b but row
+changed_by {a} {b} {but} {n} {row} m = record {
   long = m.long;
   bytes = m.bytes;
-  named = λ j q. elim (side j n) [
-    | below l ↦ differs j l (sym (m.bit j l) ∙ q)
-    | equal l ↦ absurd (false≢true (sym (m.beyond j (omega arith)) ∙ q))
-    | above l ↦ absurd (false≢true (sym (m.beyond j (omega arith)) ∙ q))
-  ];
-  names = λ j u o d. m.bit j u ∙ rw (ne_eqb j but o, ne_eqb (nth a j) (nth b j) d) refl;
+  named = λ j q.
+      let u : j < n = inside j (dec_lt j n) q in
+      let e : not (eqb j but) && not (eqb (nth a j) (nth b j)) ≡ true = sym (m.told j u) ∙ q in
+      let w = both_true (not (eqb j but)) (not (eqb (nth a j) (nth b j))) e in
+      record { below = u; other = λ i. eqb-false j but (not-true _ w.0) i; changed = λ i. eqb-false _ _ (not-true _ w.1) i };
+  names = λ j u o d. m.told j u ∙ rw (ne_eqb j but o, ne_eqb (nth a j) (nth b j) d) refl;
 }
   where
-    differs : (j : ℕ) → j < n → differs_at a b but j ≡ true → Differs n a b but j
-    differs j u e =
-        let p = both_true (not (eqb j but)) (not (eqb (nth a j) (nth b j))) e in
-        record { below = u; other = eqb-false j but (not-true _ p.0); changed = eqb-false (nth a j) (nth b j) (not-true _ p.1) }
+    inside : (j : ℕ) → Dec (j < n) → has row j ≡ true → j < n
+    inside j (yes u) q = u
+    inside j (no u) q = absurd (true≢false (sym q ∙ m.beyond j (omega arith)))

@@ -1,5 +1,5 @@
 -- The rows that a call works on, as rows of a case and a flow of it; and records written from them.
-use Rattle.std.specs.Prelude.{◌≡◌, Bool, true, false, not, ◌&&◌, eqb, List, ℕ, ◌+◌, ◌*◌, ◌^◌, ◌<◌, ◌≤◌, ℤ, length, get_or, Option, None, Some}
+use Rattle.std.specs.Prelude.{◌≡◌, Bool, true, false, ◌&&◌, List, ℕ, ◌+◌, ◌*◌, ◌^◌, ◌<◌, ◌≤◌, ℤ, length, get_or, Option, None, Some}
 use Rattle.rows.specs.Row.{nth}
 use Rattle.rows.specs.Bit.{has}
 use Rattle.rows.specs.Sum.{pick, size}
@@ -113,10 +113,6 @@ pub record Differs (n : ℕ) (a b : List ℕ) (k j : ℕ) : Type 0 where
   pub below : j < n
   pub other : j ≡ k → ⊥
   pub changed : nth a j ≡ nth b j → ⊥
-
--- The same as a test.
-abbrev pub differs_at : List ℕ → List ℕ → ℕ → ℕ → Bool
-differs_at a b but k = not (eqb k but) && not (eqb (nth a k) (nth b k))
 
 pub record Changed (n : ℕ) (a b : List ℕ) (k : ℕ) (bits : List ℕ) : Type 0 where
   pub long : length bits ≡ 32

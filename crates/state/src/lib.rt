@@ -14,7 +14,7 @@ ghost use Rattle.verdict.specs.Record.{TrueRecord};
 ghost use Rattle.state.specs.Call.{lent_check};
 ghost use Rattle.state.specs.Inside.{State, Poised, Changed, Live, Plannable, Planned, Surveyable, Surveys, RowRaisable, RowRaised, Raisable, Raised};
 ghost use Rattle.search.specs.declared.Latent.{Latent};
-ghost use Rattle.state.specs.Inside.{Fillable, Severable, Rewritten, differs_at};
+ghost use Rattle.state.specs.Inside.{Fillable, Severable, Rewritten};
 
 use answer::{Answer, Refusal};
 use book::CaseRows;
@@ -169,13 +169,7 @@ pub fn changed(branches: usize, before: [u32; 256], after: [u32; 256], but: usiz
     requires { branches ≤ 256 }
     ensures { Changed branches before after but result }
 {
-    bits::marked(
-        branches,
-        |k| -> bool
-            requires { k < 256 }
-            ensures { result ≡ differs_at before after but k }
-        { k != but && before[k] != after[k] },
-    )
+    bits::marked(branches, |k| k != but && before[k] != after[k])
 }
 
 // The verdict of a branch k that is short by its whole flow. If no other branch in service leaves the group, its loss would island; only otherwise a

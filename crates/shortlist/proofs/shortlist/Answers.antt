@@ -1,5 +1,10 @@
--- Each record is tested on its stretch, and its bit is the test's.
+-- Each record is tested on its stretch.
+use borrow.Author.Rules.{rules}
+use Rattle.shortlist.specs.Inside.{listed_at}
 use Rattle.shortlist.proofs.shortlist.Goals as goal
 
 pub returns : goal.returns
-returns c = record { bit = (c.marked.ensures _ (λ k u x e. e)).bit }
+unfolding listed_at
+returns c =
+    let m = c.marked.ensures in
+    record { bit = λ k u. let p = m.told k u in search rules }
