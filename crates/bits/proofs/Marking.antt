@@ -9,7 +9,7 @@ use borrow.Author.Tests.{eq-eqb}
 use lib.ListN.{length, replicate}
 use Rattle.rows.specs.Bit.{has, bit_at}
 use Rattle.bits.specs.Field.{set_bit}
-use Rattle.bits.specs.Marked.{Marked}
+use Rattle.bits.specs.Inside.{Marked}
 use Rattle.bits.proofs.ReadAsPut.{length_set_bit, bytes_set_bit, bit_same, bit_other, bit_zeros, bytes_zeros}
 
 -- The bit of k in a row of 32 bytes is 1, and every other bit is as it was.

@@ -1,3 +1,3 @@
 pub mod Field
 pub mod Fields
-pub mod Marked
+pub mod Inside

@@ -6,7 +6,7 @@ ghost use Rattle.rows.specs.Row.{nth};
 ghost use Rattle.rows.specs.Bit.{has};
 ghost use Rattle.rows.specs.Sum.{size};
 ghost use Rattle.bits.specs.Field.{field, with_bit, set_bit, put};
-ghost use Rattle.bits.specs.Marked.{Marked};
+ghost use Rattle.bits.specs.Inside.{Marked};
 
 // Byte k, and 0 past the end.
 fn byte(s: &[u8], k: usize) -> u32

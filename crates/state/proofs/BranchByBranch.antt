@@ -8,7 +8,7 @@ use borrow.Author.Count.{below_more}
 use native.Mathlib.Decide.{dec_lt}
 use lib.Dec.{eqb}
 use borrow.Author.Tests.{ne_eqb, eqb-false, not-true}
-use Rattle.bits.specs.Marked.{Marked}
+use Rattle.bits.specs.Inside.{Marked}
 use lib.ListN.{length, get_or, set, length-set}
 use lib.Seq.{get_or-set_same, get_or-set_other}
 use Rattle.rows.specs.Row.{nth}

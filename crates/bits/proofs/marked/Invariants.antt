@@ -1,5 +1,5 @@
 -- The first k bits are told.
-use Rattle.bits.specs.Marked.{Marked}
+use Rattle.bits.specs.Inside.{Marked}
 use Rattle.bits.proofs.marked.Given as goal
 
 abbrev pub invariant-loop-k : goal.invariant-loop-k
