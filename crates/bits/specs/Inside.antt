@@ -1,4 +1,4 @@
--- A row of 256 bits by what a test answers of each.
+-- What `marked` promises: a row of 256 bits, by what a test answers of each.
 use Rattle.std.specs.Prelude.{◌≡◌, Bool, false, List, ℕ, ◌<◌, ◌≤◌, length}
 use Rattle.rows.specs.Bit.{has}
 use Rattle.bits.specs.Field.{Bytes}

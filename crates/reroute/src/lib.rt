@@ -204,7 +204,8 @@ pub fn without(mut latent: Latent, lost: usize) -> Latent
     latent
 }
 
-// The same as for the base flow, after one branch of a flow is lost.
+// The same as for the base flow, after one branch of a flow is lost. Compiled into its callers, which else copied all rows to it.
+#[inline(always)]
 pub fn loss(wires: Wires, limit: [u32; 256], latent: Latent, lost: usize) -> Judgement
     requires { Losable wires limit latent lost }
     ensures { Lost wires limit latent lost result }
