@@ -11,19 +11,31 @@ use Rattle.rows.proofs.Row.{both_true}
 use Rattle.std.specs.Prelude.{Option, Some, None, Ok, Err, is_some}
 use Rattle.answer.specs.declared.Place.{Place}
 use Rattle.answer.specs.declared.Refusal.{Refusal}
-use Rattle.answer.specs.declared.Refusal.TheVariants.{BusWrong, BranchWrong}
+use Rattle.answer.specs.declared.Refusal.TheVariants.{BusWrong, BranchWrong, Overloaded}
 use Rattle.answer.specs.Answer.{Answer, Nowhere, number, place, number_of, place_of, placed, SaidBy, refuse_if, refuse_at, and_then}
 use Rattle.answer.proofs.Said.{said_accepted, said_refused, said_same}
 
--- A refusal has a place exactly if its number is 4 or 5, and no refusal has the number 0.
+-- A refusal has a place exactly if its number is 4 or 5, and none has the number 0.
 pub place_where : (why : Refusal) → is_some (place why) ≡ member (number why) placed
 unfolding member
 place_where (BusWrong at) = refl
 place_where why = refl
 
-pub proper : (why : Refusal) → number why ≡ 0 → ⊥
-proper (BusWrong at) e = absurd (omega arith)
-proper why e = absurd (omega arith)
+pub never_zero : (why : Refusal) → number why ≡ 0 → ⊥
+never_zero (BusWrong at) e = absurd (omega arith)
+never_zero why e = absurd (omega arith)
+
+-- No answer but an overload has the number 12, and none but an accepted call the number 0.
+abbrev pub Proper : Answer → Type 0
+Proper (Ok _) = Unit
+Proper (Err (Overloaded kw bytes)) = Unit
+Proper (Err why) = (number why ≡ 0 → ⊥) × (number why ≡ 12 → ⊥)
+
+pub proper : (r : Answer) → Proper r
+proper (Ok _) = tt
+proper (Err (Overloaded kw bytes)) = tt
+proper (Err (BusWrong at)) = (λ e. omega arith, λ e. omega arith)
+proper (Err why) = (λ e. omega arith, λ e. omega arith)
 
 -- Accepted, or refused by one of these numbers.
 abbrev pub Gives : List ℕ → Answer → Type 0

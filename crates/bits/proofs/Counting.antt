@@ -7,7 +7,7 @@ use native.Mathlib.Omega.{arith}
 use lib.Dec.{eqb}
 use lib.Count.{ones, ones_step, ones-le}
 use lib.Pow.{shr-shr}
-use mir.Syntax.{w8}
+use mir.Syntax.{w8, w64}
 use mir.Val.{Fits}
 use Rattle.rows.specs.Row.{nth}
 use Rattle.rows.specs.Bit.{bit_at, has}
@@ -64,6 +64,10 @@ module _ (group : List ℕ) where
   pub counting_none : Counting group 0 0
   unfolding over
   counting_none = record { upto = omega arith; few = omega arith; so_far = refl }
+
+  -- A need that holds whatever the byte is.
+  pub counting_room : {total k x : ℕ} → Counting group total k → k < 16 → Fits w8 x → Fits w64 (total + ones x)
+  counting_room {x = x} c h b = record { fits = omega (arith, c.few, ones-le 8 x b.fits) }
 
   pub counting_more : {total k : ℕ} → Counting group total k → k < 16 → Fits w8 (nth group k)
       → Counting group (total + ones (nth group k)) (k + 1)

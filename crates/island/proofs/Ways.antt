@@ -1,7 +1,7 @@
 -- One unit that is left at a bus and wanted at another stays exactly if no path of open branches leads there; with one branch shut; and the scan for
 -- a branch that leaves a group.
 use mathlib.Core.Path.{◌≡◌, refl, sym, ap, subst, ◌∙◌, fun_ext}
-use mathlib.Core.Bool.{Bool, true, false, cond}
+use mathlib.Core.Bool.{Bool, true, false, cond, ◌&&◌}
 use mathlib.Core.List.{List}
 use Prim.Native.Nat.{ℕ, zero, suc, ◌≤◌, ◌<◌}
 use native.Mathlib.Omega.{arith}
@@ -169,3 +169,10 @@ module _ (p : ℕ → Bool) where
       sym (some_at p n k u (rw (at_place n k u) at (f 0)))
   by_any n false f =
       sym (none_below n (λ k l. rw (at_place n k l) at (f k 0 (omega arith) (omega (arith, length-range_with_len 0 n)))))
+
+-- A truth value that is t where s holds, and else s, is both.
+pub counted : (s t : Bool) {x : Bool} → s ≡ true → x ≡ t → x ≡ s && t
+counted s t e h = rw e h
+
+pub uncounted : (s t : Bool) {x : Bool} → s ≡ false → x ≡ s → x ≡ s && t
+uncounted s t e h = rw e (h ∙ e)

@@ -2,7 +2,7 @@
 use Rattle.std.proofs.Common.{◌≡◌, ℕ, zero, suc, ◌+◌, ◌-◌, ◌<◌, ◌≤◌, min, Bool, true, false, not, ltb, ◌↔◌, ℤ, pos, negsuc, ◌+ℤ◌, ◌-ℤ◌, neg_ℤ, nat_abs, ◌≤ℤ◌, refl, ap, arith, le→leb, leb→le, ltb-false, ltb-true}
 use lib.IntN.{sub_ℕ}
 use Rattle.rows.specs.Sum.{Group, pick, over, pick_ℤ, sum}
-use Rattle.quantity.specs.Signed.{pos_part, neg_part, of_size}
+use Rattle.quantity.specs.Signed.{pos_part, neg_part, is_neg, of_size}
 
 -- One of the two parts is 0, in a form that arithmetic reads.
 pub one_side : (z : ℤ) → min (pos_part z) (neg_part z) ≡ 0
@@ -94,3 +94,18 @@ apart_at_most x y n = (
   λ h. (omega (arith, size_parts (x -ℤ y), minus_parts x y), omega (arith, size_parts (x -ℤ y), minus_parts x y)),
   λ h. omega (arith, size_parts (x -ℤ y), one_side (x -ℤ y), minus_parts x y, h.0, h.1),
 )
+
+-- The sign of a difference: 1 only below 0.
+pub less_sign : (a b : ℕ) → a < b → 1 ≡ pick (is_neg (pos a -ℤ pos b)) 1
+less_sign a b l = signed (pos a -ℤ pos b) (omega (arith, minus_parts (pos a) (pos b)))
+  where
+    signed : (z : ℤ) → 0 < neg_part z → 1 ≡ pick (is_neg z) 1
+    signed (pos n) h = absurd (omega arith)
+    signed (negsuc n) h = refl
+
+pub more_sign : (a b : ℕ) → b ≤ a → 0 ≡ pick (is_neg (pos a -ℤ pos b)) 1
+more_sign a b l = unsigned (pos a -ℤ pos b) (omega (arith, minus_parts (pos a) (pos b), one_side (pos a -ℤ pos b)))
+  where
+    unsigned : (z : ℤ) → neg_part z ≡ 0 → 0 ≡ pick (is_neg z) 1
+    unsigned (pos n) h = refl
+    unsigned (negsuc n) h = absurd (omega arith)

@@ -6,6 +6,7 @@ pub mod Rewriting
 pub mod Opening
 pub mod Base
 pub mod Lending
+pub mod ProperAnswer
 pub mod Status
 pub mod OneOverload
 pub mod Checked
