@@ -12,9 +12,8 @@ use Rattle.std.specs.List.{flat_map}
 use Rattle.std.proofs.lemmas.Grind.{flat_map-append}
 use Rattle.std.proofs.lemmas.List.Edits.{take-paste, drop-paste}
 use Rattle.std.proofs.lemmas.Slice.{put_mid-paste}
-use Rattle.line.specs.Text.{joined}
-use Rattle.line.specs.Inside.{Added}
-use Rattle.line.proofs.Joined.{joined_none, joined_more}
+use Rattle.line.specs.declared.Line.{Line}
+use Rattle.line.specs.Inside.{Added, Adds}
 
 pub added_none : (l : List ℕ) (at : ℕ) → Added [] l at l at
 added_none l at = record { ends = omega arith; holds = sym (append-nil (take at l)); rest = refl }
@@ -51,52 +50,34 @@ added_first {s} {l} {m} {b} p =
     let e : b ≡ length s = omega (arith, p.ends) in
     subst (λ (k : ℕ). Added s l 0 m k) e p
 
--- Of the texts of some items, each of at most w bytes, those of the first i stand in the line.
-pub record Listing {A : Type 0} (f : A → List ℕ) (w : ℕ) (items : List A) (l : List ℕ) (a : ℕ) (m : List ℕ) (b i : ℕ) : Type 0 where
-  pub short : b ≤ a + w * i
-  pub added : Added (flat_map f (take i items)) l a m b
+-- ---- A line, and its text after text.
+pub adds_none : (l : Line) {most : ℕ} → Adds [] most l l
+adds_none l = record { added = added_none l.bytes.now l.len; short = omega arith; long = refl; same = refl }
 
-module _ {A : Type 0} (f : A → List ℕ) (w : ℕ) (items : List A) (l : List ℕ) (a : ℕ) where
-  pub listing_none : Listing f w items l a l a 0
-  listing_none = record { short = omega arith; added = added_none l a }
+pub adds_then : {s t : List ℕ} {m n : ℕ} {a b c : Line} → Adds s m a b → Adds t n b c → Adds (s ++ t) (m + n) a c
+adds_then p q = record { added = added_then p.added q.added; short = omega (arith, p.short, q.short); long = q.long ∙ p.long; same = q.same ∙ p.same }
 
-  pub listing_more : {m m' : List ℕ} {b c i : ℕ} (d : A) → Listing f w items l a m b i → i < length items → c ≤ b + w
-      → Added (f (get_or items i d)) m b m' c → Listing f w items l a m' c (i + 1)
-  listing_more {i = i} d p u h q = record {
-    short = rw (add-one i, mul-suc w i) (omega (arith, p.short));
-    added = added_same (sym (rw (add-one i, take-suc items i d u, flat_map-append f (take i items) (get_or items i d ∷ []), append-nil (f (get_or items i d))) refl)) (added_then p.added q);
-  }
+pub adds_as : {s t : List ℕ} {m n : ℕ} {a b : Line} → s ≡ t → m ≤ n → Adds s m a b → Adds t n a b
+adds_as e h p = record { added = added_same e p.added; short = omega (arith, p.short); long = p.long; same = p.same }
+
+-- The texts of the first items, each of at most w bytes.
+module _ {A : Type 0} (f : A → List ℕ) (w : ℕ) (items : List A) {a b : Line} where
+  pub items_more : {c : Line} {i : ℕ} (d : A) → i < length items → Adds (flat_map f (take i items)) (w * i) a b → Adds (f (get_or items i d)) w b c
+      → Adds (flat_map f (take (i + 1) items)) (w * (i + 1)) a c
+  items_more {i = i} d u p q =
+      let e : w * i + w ≤ w * (i + 1) = rw (add-one i) (omega (arith, mul-suc w i)) in
+      adds_as (sym (rw (add-one i, take-suc items i d u, flat_map-append f (take i items) (get_or items i d ∷ []), append-nil (f (get_or items i d))) refl)) e (adds_then p q)
 
   -- Room for one more.
-  pub listing_room : {m : List ℕ} {b i : ℕ} → Listing f w items l a m b i → i < length items → b + w ≤ a + w * length items
-  listing_room {i = i} p u =
+  pub items_room : {i : ℕ} → i < length items → Adds (flat_map f (take i items)) (w * i) a b → a.len + w * length items ≤ length a.bytes.now → b.len + w ≤ length b.bytes.now
+  items_room {i} u p r =
       let more : i + 1 ≤ length items = omega arith in
       let e : w * (i + 1) ≡ w * i + w = rw (add-one i) (omega (arith, mul-suc w i)) in
-      omega (arith, p.short, e, mul-le-mul_left w more)
+      omega (arith, p.short, p.long, e, mul-le-mul_left w more)
 
-  pub listed_all : {m : List ℕ} {b i : ℕ} → Listing f w items l a m b i → i ≡ length items → Added (flat_map f items) l a m b
-  listed_all {i = i} p e = added_same (ap (λ (k : ℕ). flat_map f (take k items)) e ∙ ap (flat_map f) (take-length items)) p.added
+  pub items_all : {i : ℕ} → i ≡ length items → Adds (flat_map f (take i items)) (w * i) a b → Adds (flat_map f items) (w * length items) a b
+  items_all {i} e p = adds_as (ap (λ (k : ℕ). flat_map f (take k items)) e ∙ ap (flat_map f) (take-length items)) (rw e (omega arith)) p
 
--- Of n texts, each of at most w bytes, i stand in the line.
-pub record Joining (f : ℕ → List ℕ) (w n : ℕ) (l : List ℕ) (a : ℕ) (m : List ℕ) (b i : ℕ) : Type 0 where
-  pub upto : i ≤ n
-  pub long : length m ≡ length l
-  pub short : b ≤ a + w * i
-  pub added : Added (joined i f) l a m b
-
-module _ (f : ℕ → List ℕ) (w n : ℕ) (l : List ℕ) (a : ℕ) where
-  pub joining_none : Joining f w n l a l a 0
-  joining_none = record { upto = omega arith; long = refl; short = omega arith; added = rw (joined_none f) (added_none l a) }
-
-  pub joining_more : {m m' : List ℕ} {b c i : ℕ} → Joining f w n l a m b i → i < n → length (f i) ≤ w → length m' ≡ length m → Added (f i) m b m' c → Joining f w n l a m' c (i + 1)
-  joining_more {i = i} p h u e q = record {
-    upto = omega arith;
-    long = e ∙ p.long;
-    short = rw (add-one i, mul-suc w i) (omega (arith, p.short, q.ends));
-    added = rw (joined_more i f) (added_then p.added q);
-  }
-
-  pub joined_all : {m : List ℕ} {b i : ℕ} → Joining f w n l a m b i → n ≤ i → Added (joined n f) l a m b
-  joined_all {i = i} p h =
-      let e : i ≡ n = omega (arith, p.upto) in
-      rw e at p.added
+-- All that a line holds.
+pub adds_first : {t : List ℕ} {m : ℕ} {a b : Line} → a.len ≡ 0 → Adds t m a b → Added t a.bytes.now 0 b.bytes.now (length t)
+adds_first {t} {m} {a} {b} z p = added_first (subst (λ (k : ℕ). Added t a.bytes.now k b.bytes.now b.len) z p.added)

@@ -2,31 +2,34 @@
 use mathlib.Core.Path.{◌≡◌, refl}
 use mathlib.Core.Bool.{true, false, cond}
 use mathlib.Core.List.{List, []}
-use Prim.Native.Nat.{ℕ, ◌+◌, ◌<◌, ◌≤◌}
+use Prim.Native.Nat.{ℕ, ◌+◌, ◌*◌}
 use native.Mathlib.Omega.{arith}
-use lib.ListN.{length}
+use mathlib.Core.List.{append-nil}
 use Rattle.rows.specs.Bit.{has}
+use Rattle.line.specs.declared.Line.{Line}
+use Rattle.line.specs.Text.{next_of, joined}
+use Rattle.line.specs.Inside.{Adds}
+use Rattle.line.proofs.Adding.{adds_none, adds_then, adds_as}
 use Rattle.rows.specs.Sum.{size}
-use Rattle.line.specs.Text.{next_of}
-use Rattle.line.specs.Inside.{Added}
-use Rattle.line.proofs.Adding.{Joining, joining_more, joined_all, added_none, added_then}
-use Rattle.line.proofs.FewestDigits.{length_next}
 use Rattle.line.specs.AnswerText.{group_text}
+use Rattle.line.proofs.Joined.{joined_none, joined_more}
 
 -- Bus i where it is in the group.
 abbrev pub member_text : List ℕ → ℕ → List ℕ
 member_text group i = cond (has group i) (next_of i) []
 
-module _ (group l : List ℕ) (a : ℕ) where
-  pub member_in : {m m' : List ℕ} {b c i : ℕ} → Joining (member_text group) 21 128 l a m b i → i < 128 → has group i ≡ true → length m' ≡ length m
-      → Added (next_of i) m b m' c → Joining (member_text group) 21 128 l a m' c (i + 1)
-  member_in {i = i} p h e k q = joining_more (member_text group) 21 128 l a p h (rw e (length_next i)) k (rw e q)
+pub member_none : (group : List ℕ) (a : Line) → Adds (joined 0 (member_text group)) (21 * 0) a a
+member_none group a = rw (joined_none (member_text group)) (adds_none a)
 
-  pub member_out : {m : List ℕ} {b i : ℕ} → Joining (member_text group) 21 128 l a m b i → i < 128 → has group i ≡ false
-      → Joining (member_text group) 21 128 l a m b (i + 1)
-  member_out {m} {b} p h e = joining_more (member_text group) 21 128 l a p h (rw e (omega arith)) refl (rw e (added_none m b))
+module _ (group : List ℕ) (i : ℕ) {a b : Line} (p : Adds (joined i (member_text group)) (21 * i) a b) where
+  pub member_in : {c : Line} → has group i ≡ true → Adds (next_of i) 21 b c → Adds (joined (i + 1) (member_text group)) (21 * (i + 1)) a c
+  member_in e q = adds_as (rw (joined_more i (member_text group), e) refl) (omega arith) (adds_then p q)
+
+  pub member_out : has group i ≡ false → Adds (joined (i + 1) (member_text group)) (21 * (i + 1)) a b
+  member_out e = adds_as (rw (joined_more i (member_text group), e, append-nil (joined i (member_text group))) refl) (omega arith) p
 
 -- The count, then all the members.
-pub group_added : (group : List ℕ) {l k m : List ℕ} {count a b c i : ℕ} → count ≡ size 128 (has group) → Added (next_of count) l a k b
-    → Joining (member_text group) 21 128 k b m c i → 128 ≤ i → Added (group_text group) l a m c
-group_added group {k = k} {b = b} e p q h = added_then (rw e at p) (joined_all (member_text group) 21 128 k b q h)
+pub group_added : (group : List ℕ) {count i : ℕ} {a b c : Line} → count ≡ size 128 (has group) → Adds (next_of count) 21 a b → i ≡ 128
+    → Adds (joined i (member_text group)) (21 * i) b c → Adds (group_text group) 2709 a c
+group_added group {i = i} e p h q =
+    adds_then (rw e at p) (rw h at q)

@@ -1,49 +1,44 @@
 // The text of a group, of a place and of an answer, added to a line.
-ghost use Rattle.std.specs.Prelude.{◌++◌, ◌+◌, ◌≤◌, length};
-ghost use Rattle.line.specs.Inside.{Added};
+ghost use Rattle.line.specs.Inside.{Room, Adds};
 ghost use Rattle.line.specs.AnswerText.{group_text, place_text, answer_text};
 
-use crate::{put, put_next};
+use crate::Line;
 use answer::{Answer, Place, group_of, number_of, place_of, shortage_of};
 
-// The number of buses in the group, and these in rising order.
-pub fn put_group(out: &mut [u8], at: usize, group: [u8; 16]) -> usize
-    requires { at + 2709 ≤ length out.old }
-    ensures added { Added (group_text group) out.old at out.new result }
-    ensures upper_bound { result ≤ at + 2709 }
-{
-    let count = bits::count(group);
-    let mut end = put_next(out, at, count as u64);
-    for i in 0..128usize {
-        if bits::is_set(&group, i) {
-            end = put_next(out, end, i as u64);
+impl<'a> Line<'a> {
+    // The number of buses in the group, and these in rising order.
+    pub fn put_group(&mut self, group: [u8; 16])
+        requires { Room 2709 self.old }
+        ensures { Adds (group_text group) 2709 self.old self.new }
+    {
+        let count = bits::count(group);
+        self.put_next(count as u64);
+        for i in 0..128usize {
+            if bits::is_set(&group, i) {
+                self.put_next(i as u64);
+            }
         }
     }
-    end
-}
 
-// The item and the field of a place, and nothing where there is none.
-pub fn put_place(out: &mut [u8], at: usize, place: Option<Place>) -> usize
-    requires { at + 42 ≤ length out.old }
-    ensures added { Added (place_text place) out.old at out.new result }
-    ensures upper_bound { result ≤ at + 42 }
-{
-    let Some(wrong) = place else {
-        return at;
-    };
-    let after_item = put_next(out, at, wrong.item as u64);
-    put_next(out, after_item, u64::from(wrong.field))
-}
+    // The item and the field of a place, and nothing where there is none.
+    pub fn put_place(&mut self, place: Option<Place>)
+        requires { Room 42 self.old }
+        ensures { Adds (place_text place) 42 self.old self.new }
+    {
+        if let Some(wrong) = place {
+            self.put_next(wrong.item as u64);
+            self.put_next(u64::from(wrong.field));
+        }
+    }
 
-// A word, then the number of the answer, its shortage, its group and its place.
-pub fn put_answer(out: &mut [u8], word: &[u8], answer: Answer) -> usize
-    requires { length word.now + 2793 ≤ length out.old }
-    ensures added { Added (word.now ++ answer_text answer) out.old 0 out.new result }
-    ensures upper_bound { result ≤ length word.now + 2793 }
-{
-    let after_word = put(out, 0, word);
-    let after_number = put_next(out, after_word, u64::from(number_of(answer)));
-    let after_shortage = put_next(out, after_number, u64::from(shortage_of(answer)));
-    let after_group = put_group(out, after_shortage, group_of(answer));
-    put_place(out, after_group, place_of(answer))
+    // The number of the answer, its shortage, its group and its place.
+    pub fn put_answer(&mut self, answer: Answer)
+        requires { Room 2793 self.old }
+        ensures { Adds (answer_text answer) 2793 self.old self.new }
+    {
+        self.put_next(u64::from(number_of(answer)));
+        self.put_next(u64::from(shortage_of(answer)));
+        self.put_group(group_of(answer));
+        self.put_place(place_of(answer));
+    }
 }

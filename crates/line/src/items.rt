@@ -1,9 +1,9 @@
 // The items of a list, added to a line one after another: numbers with a space before each, bytes as two hex digits each.
-ghost use Rattle.std.specs.Prelude.{◌≡◌, ℕ, [], ◌∷◌, List, ◌+◌, ◌*◌, ◌≤◌, length, flat_map};
+ghost use Rattle.std.specs.Prelude.{ℕ, ◌∷◌, List, ◌*◌, length, flat_map};
 ghost use Rattle.line.specs.Text.{signed_of, hex_of, next_of};
-ghost use Rattle.line.specs.Inside.{Added};
+ghost use Rattle.line.specs.Inside.{Room, Adds};
 
-use crate::{put, put_decimal, put_next};
+use crate::Line;
 
 // What a line can hold a list of: the text of one, and the most bytes that it has.
 pub trait Item: Copy {
@@ -11,10 +11,9 @@ pub trait Item: Copy {
 
     ghost most: { ℕ };
 
-    fn put(self, out: &mut [u8], at: usize) -> usize
-        requires { at + most ≤ length out.old }
-        ensures added { Added (text self) out.old at out.new result }
-        ensures upper_bound { result ≤ at + most };
+    fn put(self, line: &mut Line<'_>)
+        requires { Room most line.old }
+        ensures { Adds (text self) most line.old line.new };
 }
 
 // A space and the number.
@@ -23,8 +22,8 @@ impl Item for u32 {
 
     ghost most = { 21 };
 
-    fn put(self, out: &mut [u8], at: usize) -> usize {
-        put_next(out, at, u64::from(self))
+    fn put(self, line: &mut Line<'_>) {
+        line.put_next(u64::from(self));
     }
 }
 
@@ -34,12 +33,13 @@ impl Item for i32 {
 
     ghost most = { 22 };
 
-    fn put(self, out: &mut [u8], at: usize) -> usize {
+    fn put(self, line: &mut Line<'_>) {
         if 0 <= self {
-            return put_next(out, at, u64::from(self.unsigned_abs()));
+            line.put_next(u64::from(self.unsigned_abs()));
+        } else {
+            line.put(b" -");
+            line.put_decimal(u64::from(self.unsigned_abs()));
         }
-        let after = put(out, at, b" -");
-        put_decimal(out, after, u64::from(self.unsigned_abs()))
     }
 }
 
@@ -49,21 +49,20 @@ impl Item for u8 {
 
     ghost most = { 2 };
 
-    fn put(self, out: &mut [u8], at: usize) -> usize {
+    fn put(self, line: &mut Line<'_>) {
         let mut digits = [0u8; 16];
         let k = io::hex(u64::from(self), 2, &mut digits);
-        put(out, at, &digits[..k])
+        line.put(&digits[..k]);
     }
 }
 
-pub fn put_all<T: Item>(out: &mut [u8], at: usize, items: &[T]) -> usize
-    requires { at + T.most * length items.now ≤ length out.old }
-    ensures added { Added (flat_map T.text items.now) out.old at out.new result }
-    ensures upper_bound { result ≤ at + T.most * length items.now }
-{
-    let mut end = at;
-    for item in items {
-        end = item.put(out, end);
+impl<'a> Line<'a> {
+    pub fn put_all<T: Item>(&mut self, items: &[T])
+        requires { Room (T.most * length items.now) self.old }
+        ensures { Adds (flat_map T.text items.now) (T.most * length items.now) self.old self.new }
+    {
+        for item in items {
+            item.put(self);
+        }
     }
-    end
 }

@@ -1,48 +1,52 @@
-// A line built in lent bytes: its first places hold it so far, and each call adds to it and answers its new length.
+// A line, built in lent bytes: each method adds a text after what it holds.
 #![tactic(auto)]
 
-ghost use Rattle.std.specs.Prelude.{◌+◌, ◌≤◌, length};
+ghost use Rattle.std.specs.Prelude.{length};
 ghost use Rattle.line.specs.Text.{decimal_of, next_of};
-ghost use Rattle.line.specs.Inside.{Added};
+ghost use Rattle.line.specs.Inside.{Room, Adds};
 
 mod answers;
 mod items;
 mod reading;
 mod whole;
-mod writing;
 
-pub use answers::{put_answer, put_group, put_place};
-pub use items::{Item, put_all};
+pub use items::Item;
 pub use reading::read_full;
 pub use whole::{answer_line, hex_line, list_line};
-pub use writing::write_line;
 
-// Bytes as they are.
-pub fn put(out: &mut [u8], at: usize, text: &[u8]) -> usize
-    requires { at + length text.now ≤ length out.old }
-    ensures { Added text.now out.old at out.new result }
-{
-    let end = at + text.len();
-    out[at..end].copy_from_slice(text);
-    end
+// The first `len` of the bytes hold it so far.
+#[derive(Drop)]
+pub struct Line<'a> {
+    pub bytes: &'a mut [u8],
+    pub len: usize,
 }
 
-pub fn put_decimal(out: &mut [u8], at: usize, n: u64) -> usize
-    requires { at + 20 ≤ length out.old }
-    ensures added { Added (decimal_of n) out.old at out.new result }
-    ensures upper_bound { result ≤ at + 20 }
-{
-    let mut digits = [0u8; 20];
-    let k = io::decimal(n, &mut digits);
-    put(out, at, &digits[..k])
-}
+impl<'a> Line<'a> {
+    // Bytes as they are.
+    pub fn put(&mut self, text: &[u8])
+        requires { Room (length text.now) self.old }
+        ensures { Adds text.now (length text.now) self.old self.new }
+    {
+        let end = self.len + text.len();
+        self.bytes[self.len..end].copy_from_slice(text);
+        self.len = end;
+    }
 
-// A space and a number.
-pub fn put_next(out: &mut [u8], at: usize, n: u64) -> usize
-    requires { at + 21 ≤ length out.old }
-    ensures added { Added (next_of n) out.old at out.new result }
-    ensures upper_bound { result ≤ at + 21 }
-{
-    let after = put(out, at, b" ");
-    put_decimal(out, after, n)
+    pub fn put_decimal(&mut self, n: u64)
+        requires { Room 20 self.old }
+        ensures { Adds (decimal_of n) 20 self.old self.new }
+    {
+        let mut digits = [0u8; 20];
+        let k = io::decimal(n, &mut digits);
+        self.put(&digits[..k]);
+    }
+
+    // A space and a number.
+    pub fn put_next(&mut self, n: u64)
+        requires { Room 21 self.old }
+        ensures { Adds (next_of n) 21 self.old self.new }
+    {
+        self.put(b" ");
+        self.put_decimal(n);
+    }
 }

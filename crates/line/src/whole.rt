@@ -1,22 +1,58 @@
-// Lines of a word and what follows it: each is built whole, in bytes enough for its longest text and a newline, and written at once.
+// Whole lines: each is built in bytes enough for its longest text and a newline, and written to a printer, as standard output, at once.
 // How long its text is comes back, or why the write failed.
-ghost use Rattle.std.specs.Prelude.{◌++◌, ◌≡◌, ◌+◌, ◌*◌, ◌≤◌, length, IfOk, flat_map};
+ghost use Rattle.std.specs.Prelude.{[], ◌∷◌, ◌++◌, ◌≡◌, ◌+◌, ◌*◌, ◌≤◌, length, IfOk, flat_map};
 ghost use Rattle.line.specs.Text.{number_room, number_text, hex_text};
 ghost use Rattle.line.specs.AnswerText.{answer_text};
-ghost use Rattle.line.specs.Inside.{Added};
+ghost use Rattle.line.specs.Inside.{Added, Room, Adds};
 
-use crate::{Item, put, put_all, put_answer, put_next, write_line};
+use crate::{Item, Line};
 use answer::Answer;
 use std::io;
+
+impl<'a> Line<'a> {
+    // The newline, 10, is added first, so that line and newline are one write, and stand in the lent bytes even where the write fails; how many bytes were
+    // handed to it comes back.
+    pub fn write<R: Print>(&mut self, rt: &R) -> io::Result<usize>
+        requires { Room 1 self.old }
+        ensures added { Adds (10 ∷ []) 1 self.old self.new }
+        ensures value { IfOk result (λ n. n ≡ self.old.len + 1) }
+    {
+        self.put(b"\n");
+        self.hand_over(rt)?;
+        Ok(self.len)
+    }
+
+    fn hand_over<R: Print>(&self, rt: &R) -> io::Result<()>
+        requires { Room 0 self.now }
+    {
+        rt.write_all(&self.bytes[..self.len])
+    }
+
+    // A number where there is one.
+    fn put_number(&mut self, number: Option<usize>)
+        requires { Room (number_room number) self.old }
+        ensures { Adds (number_text number) (number_room number) self.old self.new }
+    {
+        if let Some(n) = number {
+            self.put_next(n as u64);
+        }
+    }
+}
 
 // A word and the answer: its number, the shortage, the group, the place.
 pub fn answer_line<R: Print>(rt: &R, word: &[u8], answer: Answer) -> io::Result<usize>
     requires { length word.now ≤ 10 }
     ensures { IfOk result (λ n. n ≡ length (word.now ++ answer_text answer)) }
 {
-    let mut out = [0u8; 2804];
-    let end = put_answer(&mut out, word, answer);
-    write_line(rt, &mut out, end)?;
+    let mut bytes = [0u8; 2804];
+    let mut line = Line {
+        bytes: &mut bytes,
+        len: 0,
+    };
+    line.put(word);
+    line.put_answer(answer);
+    let end = line.len;
+    line.write(rt)?;
     Ok(end)
 }
 
@@ -25,23 +61,16 @@ pub fn list_line<R: Print, T: Item>(rt: &R, word: &[u8], items: &[T]) -> io::Res
     requires { (length word.now ≤ 10) × (T.most * length items.now ≤ 26880) }
     ensures { IfOk result (λ n. n ≡ length word.now + length (flat_map T.text items.now)) }
 {
-    let mut out = [0u8; 26891];
-    let after = put(&mut out, 0, word);
-    let end = put_all(&mut out, after, items);
-    write_line(rt, &mut out, end)?;
+    let mut bytes = [0u8; 26891];
+    let mut line = Line {
+        bytes: &mut bytes,
+        len: 0,
+    };
+    line.put(word);
+    line.put_all(items);
+    let end = line.len;
+    line.write(rt)?;
     Ok(end)
-}
-
-// A number where there is one.
-fn put_number(out: &mut [u8], at: usize, number: Option<usize>) -> usize
-    requires { at + number_room number ≤ length out.old }
-    ensures added { Added (number_text number) out.old at out.new result }
-    ensures upper_bound { result ≤ at + number_room number }
-{
-    match number {
-        Some(n) => put_next(out, at, n as u64),
-        None => at,
-    }
 }
 
 // A word, a number where there is one, and bytes in hex: the lent bytes hold them, newline and all, even where the write fails.
@@ -56,10 +85,12 @@ pub fn hex_line<R: Print>(
     ensures added { Added (hex_text word.now number bytes.now) out.old 0 out.new (length (hex_text word.now number bytes.now)) }
     ensures value { IfOk result (λ n. n + 1 ≡ length (hex_text word.now number bytes.now)) }
 {
-    let after_word = put(out, 0, word);
-    let after_number = put_number(out, after_word, number);
-    let after_space = put(out, after_number, b" ");
-    let end = put_all(out, after_space, bytes);
-    write_line(rt, out, end)?;
+    let mut line = Line { bytes: out, len: 0 };
+    line.put(word);
+    line.put_number(number);
+    line.put(b" ");
+    line.put_all(bytes);
+    let end = line.len;
+    line.write(rt)?;
     Ok(end)
 }

@@ -10,7 +10,7 @@ ghost use Rattle.printing.specs.Inside.{Handed, Listable};
 mod lines;
 
 use answer::{Answer, Refusal};
-use line::write_line;
+use line::Line;
 use lines::{put_branch, put_head, put_refused};
 use std::io;
 
@@ -25,26 +25,38 @@ pub struct Printout {
 fn print_head<R: Print>(rt: &R, book: &[u8]) -> io::Result<usize>
     ensures { IfOk result (λ n. Handed (head_text book.now) 42 n) }
 {
-    let mut out = [0u8; 42];
-    let end = put_head(&mut out, book);
-    write_line(rt, &mut out, end)
+    let mut bytes = [0u8; 42];
+    let mut line = Line {
+        bytes: &mut bytes,
+        len: 0,
+    };
+    put_head(&mut line, book);
+    line.write(rt)
 }
 
 fn print_branch<R: Print>(rt: &R, table: &[u8], k: usize) -> io::Result<usize>
     requires { 52 * k + 52 ≤ length table.now }
     ensures { IfOk result (λ n. Handed (branch_text table.now k) 2759 n) }
 {
-    let mut out = [0u8; 2759];
-    let end = put_branch(&mut out, table, k);
-    write_line(rt, &mut out, end)
+    let mut bytes = [0u8; 2759];
+    let mut line = Line {
+        bytes: &mut bytes,
+        len: 0,
+    };
+    put_branch(&mut line, table, k);
+    line.write(rt)
 }
 
 fn print_refused<R: Print>(rt: &R, why: Refusal) -> io::Result<usize>
     ensures { IfOk result (λ n. Handed (refused_text (Err why)) 2759 n) }
 {
-    let mut out = [0u8; 2759];
-    let end = put_refused(&mut out, why);
-    write_line(rt, &mut out, end)
+    let mut bytes = [0u8; 2759];
+    let mut line = Line {
+        bytes: &mut bytes,
+        len: 0,
+    };
+    put_refused(&mut line, why);
+    line.write(rt)
 }
 
 // The list of an accepted book: its head line, then a line for each branch.

@@ -2,17 +2,17 @@
 use native.Mathlib.Omega.{arith}
 use mathlib.Core.Path.{◌∙◌}
 use Prim.Native.Nat.{◌≤◌}
-use Rattle.line.proofs.Adding.{added_same}
+use Rattle.line.proofs.Adding.{adds_as}
 use Rattle.line.proofs.FewestDigits.{fewest_decimal, few_decimal}
-use Rattle.line.proofs.put_decimal.Goals as goal
+use Rattle.line.proofs.Line.put_decimal.Goals as goal
 
 pub put-requires : goal.put-requires
 put-requires c =
     let h : c.decimal-k.result ≤ 20 = few_decimal _ _ (omega arith) c.decimal-k.ensures.len in
-    omega (arith, h, c.decimal-k.ensures.in_bounds.1)
+    omega (arith, h, c.decimal-k.ensures.in_bounds.1, c.requires)
 
 pub returns : goal.returns
 returns c =
     let w = c.decimal-k.ensures in
     let h : c.decimal-k.result ≤ 20 = few_decimal _ _ (omega arith) w.len in
-    record { added = added_same (w.digits ∙ fewest_decimal 20 _ _ h w.len) c.put.ensures; upper_bound = omega (arith, h, w.in_bounds.1, c.put.ensures.ends) }
+    adds_as (w.digits ∙ fewest_decimal 20 _ _ h w.len) (omega (arith, h, w.in_bounds.1)) c.put.ensures
