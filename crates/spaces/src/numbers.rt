@@ -4,13 +4,13 @@ ghost use Rattle.spaces.specs.InsideNumbers.{good, Asked};
 
 use rows::two;
 
-// The number of two bytes at a place of a command: `None` where the stream ends inside it, and where it is above `most`.
+// The number of two bytes at a place of a command: `None` where the letter stands, where the stream ends inside it, and where it is above `most`.
 pub fn number_at(rest: &[u8], at: usize, most: usize) -> Option<usize>
     requires { at ≤ length rest.now }
     ensures some { IfSome result (λ n. Asked rest.now at most n) }
     ensures none { IfNone result (good rest.now at most ≡ false) }
 {
-    if rest.len() - at < 2 {
+    if at == 0 || rest.len() - at < 2 {
         return None;
     }
     let value = two(rest, at);
