@@ -60,14 +60,12 @@ fn lose(
         return Err(state::overloaded(lack));
     }
     let left = judged.latent;
-    let before = latent.ahead;
-    let after = left.ahead;
-    let touched = touch(wires.branches, before, after, branch);
+    let touched = touch(wires.branches, latent.ahead, left.ahead, branch);
     let served = switch::with(served, branch, false);
     let limits = switch::with(live, branch, 0);
     let briefs = switch::with(brief, branch, 0);
     let listed = shortlist::shortlist(table, wires.branches, served, touched);
-    state::fill_flow(flow, wires.branches, limits, after);
+    state::fill_flow(flow, wires.branches, limits, left.ahead);
     let raised = state::raise(wires.branches, limits, briefs, left);
     let losses = state::rewrite(table, wires, served, briefs, raised, listed);
     layout::set_status(book, branch, 0);

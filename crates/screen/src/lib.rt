@@ -25,8 +25,7 @@ pub fn screen(percent: u32, book: &[u8], flow: &mut [i32], table: &mut [u8]) -> 
         return Err(state::overloaded(lack));
     }
     let latent = base.latent;
-    let ahead = latent.ahead;
-    state::fill_flow(flow, wires.branches, live, ahead);
+    state::fill_flow(flow, wires.branches, live, latent.ahead);
     let raised = state::raise(wires.branches, live, brief, latent);
     state::rewrite(table, wires, served, brief, raised, [255u8; 32]);
     Ok(())

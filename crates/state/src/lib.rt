@@ -216,10 +216,8 @@ pub fn put_verdict(
     }
     let judged = reroute::loss(wires, live, latent, k);
     let Some(short) = judged.short else {
-        let before = latent.ahead;
         let left = judged.latent;
-        let after = left.ahead;
-        let reroute = changed(wires.branches, before, after, k);
+        let reroute = changed(wires.branches, latent.ahead, left.ahead, k);
         record::write(rec, 1, 0, [0u8; 16], reroute);
         return;
     };

@@ -94,12 +94,10 @@ pub fn move_load(
     if let Some(lack) = judged.short {
         return Err(state::overloaded(lack));
     }
-    let before = latent.ahead;
     let left = judged.latent;
-    let after = left.ahead;
-    let touched = state::changed(wires.branches, before, after, wires.branches);
+    let touched = state::changed(wires.branches, latent.ahead, left.ahead, wires.branches);
     let listed = shortlist::shortlist(table, wires.branches, served, touched);
-    state::fill_flow(flow, wires.branches, live, after);
+    state::fill_flow(flow, wires.branches, live, left.ahead);
     let raised = state::raise(wires.branches, live, brief, left);
     state::rewrite(table, wires, served, brief, raised, listed);
     put_injections(book, up, down, kw);
