@@ -12,6 +12,7 @@ pub fn read_full<R: Read>(reader: &mut R, buf: &mut [u8]) -> io::Result<usize>
     ensures err { OnErr result (length buf.new ≡ length buf.old) }
 {
     let mut done = 0;
+    // No `for`: how far a turn comes is what its read gives.
     while done < buf.len() {
         let n = reader.read(&mut buf[done..])?;
         if n == 0 {

@@ -31,7 +31,10 @@ impl Spaces {
     ghost use Rattle.spaces.specs.InsideSpaces.{Spoilt, BookSet, PlacesSet, Beside};
 
     // No book yet, and the whole nameplate.
-    pub fn new() -> Spaces {
+    pub fn new() -> Spaces
+        ensures percent { result.percent ≡ 100 }
+        ensures no_book { result.bytes ≡ 0 }
+    {
         Spaces {
             percent: 100,
             book: [0u8; 2100],

@@ -194,6 +194,7 @@ fn readings_of(rest: &[u8], count: usize) -> [u32; 1020]
     ensures { result ≡ headed count (λ i. four_at rest.now (7 + 4 * i)) (replicate 1020 0) }
 {
     let mut readings = [0u32; 1020];
+    // By its index, which names the place of its four bytes too.
     for i in 0..count {
         readings[i] = four(rest, 7 + 4 * i);
     }
