@@ -4,12 +4,6 @@
 ghost use Rattle.std.specs.Prelude.{◌≡◌, ◌+◌, ◌<◌, ◌≤◌, length};
 ghost use Rattle.rows.specs.Row.{two_at};
 
-pub fn wide(byte: u8) -> usize
-    ensures { (result ≡ byte) × (result < 256) }
-{
-    byte as usize
-}
-
 // A number of two bytes, the high byte first.
 pub fn two(row: &[u8], at: usize) -> usize
     requires { at + 2 ≤ length row.now }

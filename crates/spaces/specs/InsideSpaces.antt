@@ -1,30 +1,8 @@
--- What the commands that only set a space leave: all spoilt, the book set, one place set.
-use Rattle.std.specs.Prelude.{◌≡◌, Bool, cond, ◌&&◌, List, ℕ, ◌+◌, leb, ltb, pos, length, set, replicate, Option, Some, None}
+-- What the commands that only set a space leave of all spaces: all spoilt, the book set, nothing beside one place set.
+use Rattle.std.specs.Prelude.{◌≡◌, cond, List, ℕ, ◌+◌, pos, length, replicate, Option, Some, None}
 use Rattle.rows.specs.Row.{nth, headed, two_at}
 use Rattle.spaces.specs.declared.Spaces.{Spaces}
-use Rattle.spaces.specs.InsideStream.{four_at, signed_from, book_reach}
-
--- The stream has the bytes of the command, and the space the place that it names.
-abbrev pub in_reach : ℕ → List ℕ → ℕ → Bool
-in_reach size rest room = leb size (length rest) && ltb (two_at rest 1) room
-
--- A command of so many bytes sets the place that it names; a bad one takes no byte and changes nothing.
-pub record PlaceSet {A : Type 0} (size : ℕ) (v : A) (rest : List ℕ) (space space' : List A) (r : Option ℕ) : Type 0 where
-  pub took : r ≡ cond (in_reach size rest (length space)) (Some size) None
-  pub left : space' ≡ cond (in_reach size rest (length space)) (set space (two_at rest 1) v) space
-
--- `F`, `T`, `I` and `N` each set one place of their own space; another letter takes no byte. The other three are as they were.
-pub data PlacesSet (letter : ℕ) (rest : List ℕ) (s s' : Spaces) (r : Option ℕ) : Type 0 where
-  in_flow : letter ≡ 70 → PlaceSet 7 (signed_from (four_at rest 3)) rest s.flow s'.flow r
-      → s'.table ≡ s.table → s'.injections ≡ s.injections → s'.branches ≡ s.branches → PlacesSet letter rest s s' r
-  in_table : letter ≡ 84 → PlaceSet 4 (nth rest 3) rest s.table s'.table r
-      → s'.flow ≡ s.flow → s'.injections ≡ s.injections → s'.branches ≡ s.branches → PlacesSet letter rest s s' r
-  in_injections : letter ≡ 73 → PlaceSet 7 (signed_from (four_at rest 3)) rest s.injections s'.injections r
-      → s'.flow ≡ s.flow → s'.table ≡ s.table → s'.branches ≡ s.branches → PlacesSet letter rest s s' r
-  in_branches : letter ≡ 78 → PlaceSet 7 (four_at rest 3) rest s.branches s'.branches r
-      → s'.flow ≡ s.flow → s'.table ≡ s.table → s'.injections ≡ s.injections → PlacesSet letter rest s s' r
-  in_none : (letter ≡ 70 → ⊥) → (letter ≡ 84 → ⊥) → (letter ≡ 73 → ⊥) → (letter ≡ 78 → ⊥) → r ≡ None
-      → s'.flow ≡ s.flow → s'.table ≡ s.table → s'.injections ≡ s.injections → s'.branches ≡ s.branches → PlacesSet letter rest s s' r
+use Rattle.spaces.specs.InsideStream.{book_reach}
 
 -- And all that these letters never set.
 pub record Beside (s s' : Spaces) : Type 0 where

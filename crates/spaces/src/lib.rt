@@ -3,7 +3,7 @@
 #![tactic(auto)]
 
 ghost use Rattle.std.specs.Prelude.{◌≡◌, ◌+◌, ◌<◌, ◌≤◌, length, set, IfSome, IfNone};
-ghost use Rattle.spaces.specs.InsideStream.{BookCopied, PercentSet};
+ghost use Rattle.spaces.specs.InsideStream.{BookCopied, PercentSet, PlacesSet};
 
 mod numbers;
 mod stream;
@@ -28,7 +28,7 @@ pub struct Spaces {
 }
 
 impl Spaces {
-    ghost use Rattle.spaces.specs.InsideSpaces.{Spoilt, BookSet, PlacesSet, Beside};
+    ghost use Rattle.spaces.specs.InsideSpaces.{Spoilt, BookSet, Beside};
 
     // No book yet, and the whole nameplate.
     pub fn new() -> Spaces
@@ -71,23 +71,18 @@ impl Spaces {
 
     // `F`, `T`, `I` and `N`.
     pub fn set_place(&mut self, letter: u8, rest: &[u8]) -> Option<usize>
-        ensures places_set { PlacesSet letter rest.now self.old self.new result }
+        ensures places_set { PlacesSet letter rest.now self.old.flow self.old.table self.old.injections self.old.branches self.new.flow self.new.table self.new.injections self.new.branches result }
         ensures beside { Beside self.old self.new }
         ensures upper_bound { IfSome result (λ n. n ≤ length rest.now) }
     {
-        let size = if letter == b'T' { 4 } else { 7 };
-        if rest.len() < size {
-            return None;
-        }
-        let k = two(rest, 1);
-        match letter {
-            b'F' => set(&mut self.flow, k, four(rest, 3).cast_signed())?,
-            b'T' => set(&mut self.table, k, rest[3])?,
-            b'I' => set(&mut self.injections, k, four(rest, 3).cast_signed())?,
-            b'N' => set(&mut self.branches, k, four(rest, 3))?,
-            _ => return None,
-        }
-        Some(size)
+        set_place(
+            rest,
+            letter,
+            &mut self.flow,
+            &mut self.table,
+            &mut self.injections,
+            &mut self.branches,
+        )
     }
 }
 
@@ -110,6 +105,33 @@ fn set<T: Copy>(space: &mut [T], k: usize, value: T) -> Option<()>
     }
     space[k] = value;
     Some(())
+}
+
+// The place that `F`, `T`, `I` or `N` names, in spaces of any size.
+pub fn set_place(
+    rest: &[u8],
+    letter: u8,
+    flow: &mut [i32],
+    table: &mut [u8],
+    injections: &mut [i32],
+    branches: &mut [u32],
+) -> Option<usize>
+    ensures places_set { PlacesSet letter rest.now flow.old table.old injections.old branches.old flow.new table.new injections.new branches.new result }
+    ensures upper_bound { IfSome result (λ n. n ≤ length rest.now) }
+{
+    let size = if letter == b'T' { 4 } else { 7 };
+    if rest.len() < size {
+        return None;
+    }
+    let k = two(rest, 1);
+    match letter {
+        b'F' => set(flow, k, four(rest, 3).cast_signed())?,
+        b'T' => set(table, k, rest[3])?,
+        b'I' => set(injections, k, four(rest, 3).cast_signed())?,
+        b'N' => set(branches, k, four(rest, 3))?,
+        _ => return None,
+    }
+    Some(size)
 }
 
 // The bytes that `B` names, put at the start of the book space: how many they are.

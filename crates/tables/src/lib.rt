@@ -12,7 +12,7 @@ ghost use Rattle.tables.specs.Inside.{taken, ReadRun, WriteAsked, write_good, Wr
 use answer::Answer;
 use layout::Form;
 use line::{answer_line, hex_line, list_line};
-use rows::{two, wide};
+use rows::two;
 use spaces::{four, number_at};
 use std::io;
 
@@ -177,10 +177,10 @@ fn lists_of(rest: &[u8]) -> Lists
     requires { 5 ≤ length rest.now }
     ensures { ListsAsked rest.now result }
 {
-    let first = wide(rest[1]);
-    let second = first + wide(rest[2]);
-    let third = second + wide(rest[3]);
-    let fourth = third + wide(rest[4]);
+    let first = usize::from(rest[1]);
+    let second = first + usize::from(rest[2]);
+    let third = second + usize::from(rest[3]);
+    let fourth = third + usize::from(rest[4]);
     Lists {
         first,
         second,
@@ -227,12 +227,12 @@ fn read_meters(rest: &[u8], injections: &mut [i32]) -> Option<(usize, Answer)>
         return None;
     }
     let lists = lists_of(rest);
-    let lent = wide(rest[5]);
+    let lent = usize::from(rest[5]);
     let size = 7 + 4 * lists.fourth;
     if injections.len() < lent || rest.len() < size {
         return None;
     }
-    let answer = meter(rest, lists, wide(rest[6]), &mut injections[..lent]);
+    let answer = meter(rest, lists, usize::from(rest[6]), &mut injections[..lent]);
     Some((size, answer))
 }
 

@@ -4,8 +4,8 @@ use Rattle.rows.specs.Row.{nth}
 use Rattle.layout.specs.declared.Form.{Form}
 use Rattle.layout.specs.declared.Form.TheVariants.{Old, New}
 use Rattle.spaces.specs.declared.Spaces.{Spaces}
-use Rattle.spaces.specs.InsideStream.{PercentSet}
-use Rattle.spaces.specs.InsideSpaces.{Spoilt, BookSet, PlacesSet, Beside}
+use Rattle.spaces.specs.InsideStream.{PercentSet, PlacesSet}
+use Rattle.spaces.specs.InsideSpaces.{Spoilt, BookSet, Beside}
 use Rattle.tables.specs.Inside.{WriteRun, MoveRun}
 use Rattle.trial.specs.InsideCalls.{CallRun, lent_of}
 
@@ -35,6 +35,7 @@ pub data CommandRun (rest : List ℕ) (s s' : Spaces) (r : Option ℕ) : Type 0 
       → lent_of s' ≡ lent_of s → s'.injections ≡ s.injections → s'.branches ≡ s.branches → s'.percent ≡ s.percent → CommandRun rest s s' r
   rates : nth rest 0 ≡ 89 → PercentSet rest s.percent s'.percent r → s'.bytes ≡ s.bytes
       → lent_of s' ≡ lent_of s → s'.injections ≡ s.injections → s'.branches ≡ s.branches → s'.shelf ≡ s.shelf → CommandRun rest s s' r
-  sets_place : places (nth rest 0) ≡ true → PlacesSet (nth rest 0) rest s s' r → Beside s s' → CommandRun rest s s' r
+  sets_place : places (nth rest 0) ≡ true → PlacesSet (nth rest 0) rest s.flow s.table s.injections s.branches s'.flow s'.table s'.injections s'.branches r
+      → Beside s s' → CommandRun rest s s' r
   calls : (nth rest 0 ≡ 80 → ⊥) → (nth rest 0 ≡ 66 → ⊥) → (nth rest 0 ≡ 87 → ⊥) → (nth rest 0 ≡ 88 → ⊥) → (nth rest 0 ≡ 76 → ⊥)
       → (nth rest 0 ≡ 89 → ⊥) → places (nth rest 0) ≡ false → CallRun (nth rest 0) rest s s' r → CommandRun rest s s' r
