@@ -19,9 +19,6 @@ returns-in_err-shape c = rw (handed_on c.in_err-shape.was c.from_residual.ensure
 pub returns-then-import_start-supply : goal.returns-then-import_start-supply
 returns-then-import_start-supply c = by_supply _ _ (sym c.shape.ensures ∙ c.in_ok-shape.was) c.if-import_start-supply.true
 
-pub totals-requires : goal.totals-requires
-totals-requires c = (shaped _ _ (sym c.shape.ensures ∙ c.in_ok-shape.was)).0
-
 pub returns-in_default : goal.returns-in_default
 returns-in_default c =
     by_advance _ _ (sym c.shape.ensures ∙ c.in_ok-shape.was) c.if-import_start-supply.false (sym c.in_default.is ∙ c.totals.ensures)

@@ -19,17 +19,8 @@ returns-in_err-check c =
 pub survey_lent-requires : goal.survey_lent-requires
 survey_lent-requires c = surveyable (may _ _ _ _ _ (sym c.check.ensures ∙ c.in_ok-check.was)).passes
 
-pub returns-in_err-lent : goal.returns-in_err-lent
-returns-in_err-lent c =
-    let none : c.survey_lent.result ≡ None = c.ok_or.ensures.ok_part ∙ ap result_ok c.in_err-lent.was in
-    rw (handed c.from_residual-in_err-lent.ensures)
-    (ends_unfit _ _ _ _ _ (sym c.check.ensures ∙ c.in_ok-check.was) c.survey_lent.ensures none (ap refused (wanted none c.ok_or.ensures.value c.in_err-lent.was)) refl)
-
 pub stretch-requires : goal.stretch-requires
 stretch-requires c = stretch_here _ _ _ _ _ (sym c.check.ensures ∙ c.in_ok-check.was) _ (c.survey_lent.ensures.fitting _ (c.ok_or.ensures.ok_part ∙ ap result_ok c.in_ok-lent.was))
-
-pub reroute_of-named-requires : goal.reroute_of-named-requires
-reroute_of-named-requires c = c.stretch.ensures.long
 
 pub replace-judged-requires : goal.replace-judged-requires
 replace-judged-requires c = losable_here _ _ _ _ _ (sym c.check.ensures ∙ c.in_ok-check.was) _ (c.survey_lent.ensures.fitting _ (c.ok_or.ensures.ok_part ∙ ap result_ok c.in_ok-lent.was))

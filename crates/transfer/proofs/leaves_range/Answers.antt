@@ -22,16 +22,6 @@ room-requires c =
     ((rw (to_z-of_z fit) at c.above.ensures) ∙ ap pos_part x.ensures, (rw (to_z-of_z fit) at c.below.ensures) ∙ ap neg_part x.ensures) in
     let p = first_parts in let s = up_small c.requires in (omega (arith, p.0), omega (arith, p.1))
 
-pub returns-then-room-kw : goal.returns-then-room-kw
-returns-then-room-kw c =
-    -- The parts of the one injection, and of the other.
-    let first_parts : (c.above.result ≡ pos_part (injection_at c.args.book.now c.args.up)) × (c.below.result ≡ neg_part (injection_at c.args.book.now c.args.up)) = let x = c.injection_at-x in
-    let fit : SFits w32 x.result = sfits_of x.type_inv in
-    ((rw (to_z-of_z fit) at c.above.ensures) ∙ ap pos_part x.ensures, (rw (to_z-of_z fit) at c.below.ensures) ∙ ap neg_part x.ensures) in
-    -- Their room.
-    let first_room : c.room.result + pos_part (injection_at c.args.book.now c.args.up) ≡ 1000000 + neg_part (injection_at c.args.book.now c.args.up) = let p = first_parts in omega (arith, c.room.ensures, p.0, p.1) in
-    rise_leaves c.requires _ _ first_room c.if-room-kw.true
-
 pub injection_at-y-requires : goal.injection_at-y-requires
 injection_at-y-requires c = (few_buses c.requires).1
 

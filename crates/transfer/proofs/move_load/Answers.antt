@@ -17,12 +17,6 @@ returns-in_err-check c =
 pub survey_lent-requires : goal.survey_lent-requires
 survey_lent-requires c = surveyable (may _ _ _ _ _ _ _ (sym c.check.ensures ∙ c.in_ok-check.was)).passes
 
-pub returns-in_err-lent : goal.returns-in_err-lent
-returns-in_err-lent c =
-    let none : c.survey_lent.result ≡ None = c.ok_or.ensures.ok_part ∙ ap result_ok c.in_err-lent.was in
-    ends_unfit _ _ _ _ _ _ _ (sym c.check.ensures ∙ c.in_ok-check.was) c.survey_lent.ensures none
-    (handed c.from_residual-in_err-lent.ensures ∙ ap refused (wanted none c.ok_or.ensures.value c.in_err-lent.was))
-
 pub deliver-judged-requires : goal.deliver-judged-requires
 deliver-judged-requires c = deliverable_here _ _ _ _ _ _ _ (sym c.check.ensures ∙ c.in_ok-check.was) _ (c.survey_lent.ensures.fitting _ (c.ok_or.ensures.ok_part ∙ ap result_ok c.in_ok-lent.was))
 

@@ -23,22 +23,6 @@ injection_at-x-requires c = (few_buses c.requires.buses).0
 pub injection_at-y-requires : goal.injection_at-y-requires
 injection_at-y-requires c = (few_buses c.requires.buses).1
 
-pub overflow_add-above : goal.overflow_add-above
-overflow_add-above c =
-    let up_above : c.above.result ≡ pos_part (injection_at c.args.book.now c.args.up) = let x = c.injection_at-x in
-    let fit : SFits w32 x.result = sfits_of x.type_inv in
-    (rw (to_z-of_z fit) at c.above.ensures) ∙ ap pos_part x.ensures in
-    let kw_small : c.args.kw ≤ 2000000 = let p = c.requires in rise_small (injection_at _ c.args.up) c.args.kw (up_small p.buses) p.rises in
-    omega (arith, up_above, up_small c.requires.buses, kw_small)
-
-pub overflow_add-below : goal.overflow_add-below
-overflow_add-below c =
-    let down_below : c.below-2.result ≡ neg_part (injection_at c.args.book.now c.args.down) = let x = c.injection_at-y in
-    let fit : SFits w32 x.result = sfits_of x.type_inv in
-    (rw (to_z-of_z fit) at c.below-2.ensures) ∙ ap neg_part x.ensures in
-    let kw_small : c.args.kw ≤ 2000000 = let p = c.requires in rise_small (injection_at _ c.args.up) c.args.kw (up_small p.buses) p.rises in
-    omega (arith, down_below, down_small c.requires.buses, kw_small)
-
 pub put_bus-requires : goal.put_bus-requires
 put_bus-requires c = (few_buses c.requires.buses).0
 

@@ -13,11 +13,6 @@ use Rattle.meters.proofs.Readings.fill.Goals.{then-i-self, else-i-self}
 pub loop-i-init : goal.loop-i-init
 loop-i-init c = filling_none _ _ c.requires
 
-pub bounds-out-i : goal.bounds-out-i
-bounds-out-i c =
-    let f = c.loop-i.invariant in
-    omega (arith, f.long, f.ready.room)
-
 pub difference-requires : goal.difference-requires
 difference-requires c =
     let e = c.advances-a.ensures in
@@ -35,11 +30,3 @@ loop-i-preserved c =
           let e = w.advances-a.ensures in
           rw (w.out-is, to_z-of_z fit) (filling_other _ _ f l w.if-i-self.false e.1 e.0 w.difference.ensures)
     ]
-
-pub shape_of-out : goal.shape_of-out
-shape_of-out c = c.loop-i.invariant.long
-
-pub returns : goal.returns
-returns c =
-    let e : c.loop-i.i ≡ length c.args.self.import_start.now = omega arith in
-    rw (e, to_z-of_z c.ranges.own) at c.loop-i.invariant.is
