@@ -41,8 +41,8 @@ fn tally(
     ensures { Tallied branches one x other y sums result }
 {
     for k in 0..branches {
-        sums[one[k] as usize] += x[k];
-        sums[other[k] as usize] += y[k];
+        sums[usize::from(one[k])] += x[k];
+        sums[usize::from(other[k])] += y[k];
     }
     sums
 }

@@ -31,8 +31,8 @@ pub fn joined(wires: Wires, mut ways: [u32; 256], k: usize) -> bool
     leads(
         wires,
         ways,
-        wires.first[k] as usize,
-        wires.second[k] as usize,
+        usize::from(wires.first[k]),
+        usize::from(wires.second[k]),
     )
 }
 
@@ -45,7 +45,8 @@ fn departs(wires: &Wires, served: &[bool; 256], k: usize, group: &[u8; 16], j: u
     if !served[j] || j == k {
         return false;
     }
-    bits::is_set(group, wires.first[j] as usize) != bits::is_set(group, wires.second[j] as usize)
+    bits::is_set(group, usize::from(wires.first[j]))
+        != bits::is_set(group, usize::from(wires.second[j]))
 }
 
 // Whether a branch in service other than k has exactly one end in the group.

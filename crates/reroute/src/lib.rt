@@ -71,7 +71,8 @@ fn sum(buses: usize, row: [u32; 128]) -> u32
 }
 
 // Moves x along the way that the marks lead back from the goal: each branch loses it one way and gains it the other.
-// The steps are counted for the proof that it ends.
+// The steps are counted for the proof that it ends. Marks and ends are cast: with `usize::from` between a row's entry and the index, the walk's proof did not
+// close.
 fn shift(wires: Wires, marks: [u16; 128], mut latent: Latent, goal: usize, x: u32) -> Latent
     requires { Movable wires marks latent goal x }
     ensures { Moves wires marks latent goal x result }
@@ -178,8 +179,8 @@ pub fn rest_of(wires: Wires, limit: [u32; 256], latent: Latent, lost: usize) -> 
     requires { Losable wires limit latent lost }
     ensures { Opened wires limit latent lost result }
 {
-    let near = wires.first[lost] as usize;
-    let far = wires.second[lost] as usize;
+    let near = usize::from(wires.first[lost]);
+    let far = usize::from(wires.second[lost]);
     let l = limit[lost];
     let p = latent.ahead[lost];
     let mut surplus = [0u32; 128];

@@ -52,7 +52,8 @@ pub struct Found {
     pub work: Work,
 }
 
-// From the highest branch down, so that `head` always holds the next side at its bus.
+// From the highest branch down, so that `head` always holds the next side at its bus. Here and in the scan a row's entry that is an index is cast: with
+// `usize::from` between the two, neither proof closed.
 pub fn link(buses: usize, branches: usize, first: [u8; 256], second: [u8; 256]) -> Wires
     requires { Linkable buses branches first second }
     ensures { Wiring buses branches first second result }

@@ -8,4 +8,4 @@ use Rattle.island.proofs.joined.Goals as goal
 pub returns : goal.returns
 returns c =
     let long : length c.args.ways ≡ 256 = search rules in
-    joining c.requires.0 c.requires.1 long c.leads.ensures
+    joining c.requires.0 c.requires.1 long (rw (c.from.ensures, c.from-2.ensures) at c.leads.ensures)
