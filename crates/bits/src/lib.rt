@@ -41,6 +41,7 @@ pub fn set_bit(out: &mut [u8], i: usize, b: u8)
     ensures { out.new ≡ set_bit out.old i b }
 {
     let k = i / 8;
+    // A cast, here and below: std has no `From` for it, and the proof shows that it fits.
     if k < out.len() {
         out[k] = with_bit(out[k], (7 - i % 8) as u32, b);
     }

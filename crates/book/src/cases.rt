@@ -68,6 +68,7 @@ fn branch_rows(percent: u32, book: &[u8], h: Head) -> BranchRows
     let mut loss = [Kw(0); 256];
     for k in 0..h.branches {
         let x = layout::branch_at(book, h.form, h.buses, k);
+        // A cast: std has no `From` that narrows, and the proof shows that it fits.
         first[k] = x.first as u8;
         second[k] = x.second as u8;
         served[k] = x.status == 1;

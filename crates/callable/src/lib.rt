@@ -1,6 +1,7 @@
 // The screen, the outage call, the return, the move of load and that of a book to a form, with the answer in its parts: what `callable_c` exports
 // under C's calling convention, for programs in other languages to link.
 // The answer comes back as its number, its shortage, its group and its place. Item and field are both 0 where the answer has no place.
+// What a call is lent stays apart, as C hands it on; so do the calls themselves take it.
 #![tactic(auto)]
 
 ghost use Rattle.answer.specs.Answer.{place_of, no_group};

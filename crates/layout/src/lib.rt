@@ -53,7 +53,7 @@ pub struct Head {
     pub spare: u32,
 }
 
-// A bus as the book has it: sign 1 is negative.
+// A bus as the book has it: sign 1 is negative. Numbers and no enum, here and below: a book or a table may hold any, and its check names the wrong field.
 #[derive(Clone, Copy)]
 pub struct Bus {
     pub sign: u32,
@@ -104,6 +104,7 @@ pub fn numbers(form: Form, branches: usize) -> usize
 pub fn branch_fault(form: Form, buses: usize, x: Branch) -> Option<u8>
     ensures { result ≡ field_at (branch_fault form buses x) }
 {
+    // A cast, here and below: std has no `From` for it, and the proof shows that it fits.
     if buses <= x.first as usize {
         return Some(1);
     }
@@ -263,6 +264,7 @@ pub fn put_bus(out: &mut [u8], k: usize, x: Bus)
 }
 
 // Branch k after so many buses, read and put. The second kVA is the last field but the status: in an old book that is the first.
+// No head is asked for: the form and the number of buses are all that these two need.
 pub fn branch_at(book: &[u8], form: Form, buses: usize, k: usize) -> Branch
     requires { (buses ≤ 128) × (k ≤ 256) }
     ensures { result ≡ branch_after form buses book.now k }

@@ -11,6 +11,7 @@ impl<'a> Line<'a> {
         requires { Room 2709 self.old }
         ensures { Adds (group_text group) 2709 self.old self.new }
     {
+        // A cast, here and in the other lines: std has no `From` from a `usize`.
         let count = bits::count(group);
         self.put_next(count as u64);
         for i in 0..128usize {

@@ -19,7 +19,7 @@ fn touch(branches: usize, before: [u32; 256], after: [u32; 256], branch: usize) 
     row
 }
 
-// An answer, and how many losses were judged for it: none for a refusal.
+// An answer, and how many losses were judged for it: none for a refusal. No Option: `TakeCounted` has the number of a refusal too.
 #[derive(Clone, Copy)]
 pub struct Taken {
     pub answer: Answer,

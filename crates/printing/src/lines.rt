@@ -25,7 +25,7 @@ fn put_short(line: &mut Line<'_>, shortage: u32, group: [u8; 16])
     line.put_group(group);
 }
 
-// The word of a branch that is short.
+// The word of a branch that is short, by the byte of a record: any byte may stand there.
 fn put_missing(line: &mut Line<'_>, verdict: u8)
     requires { Room 8 line.old }
     ensures { Adds (missing_word verdict) 8 line.old line.new }

@@ -21,6 +21,7 @@ pub fn limit(rating: Kva, factor: u32, percent: u32) -> Kw
     ensures { result.0 ≡ limit_of rating.0 factor percent }
 {
     let product = u64::from(rating.0) * u64::from(factor) * u64::from(percent);
+    // A cast, here and below: std has no `From` for it, and the proof shows that it fits.
     Kw((product / 100000) as u32)
 }
 

@@ -17,7 +17,7 @@ pub struct Rest {
     pub deficit: [u32; 128],
 }
 
-// `left` is the whole surplus left, and `group` the smallest group with that excess.
+// `left` is the whole surplus left, and `group` the smallest group with that excess. No Option: `left` says whether any is, and the group is there either way.
 #[derive(Clone, Copy)]
 pub struct Moved {
     pub latent: Latent,
@@ -109,6 +109,7 @@ pub fn reroute(wires: Wires, mut latent: Latent, mut rest: Rest) -> Moved
 {
     let mut row = roles(wires.buses, rest);
     let mut left = sum(wires.buses, rest.surplus);
+    // No `for`: each turn says how much is left.
     while left > 0 {
         let work = Work {
             marks: [0u16; 128],

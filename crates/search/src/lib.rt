@@ -7,7 +7,7 @@ ghost use Rattle.search.specs.InsideSearch.{Bits, Searchable, Searched};
 ghost use Rattle.search.specs.Inside.{Blank, Seeded, Byte, Packed};
 ghost use Rattle.std.specs.Prelude.{◌<◌, ◌≤◌, ◌+◌, ◌≡◌, cond, ltb};
 
-// The ends of the branches, and links that give the branches of a bus in rising number.
+// The ends of the branches, and links that give the branches of a bus in rising number: rows of fixed length side by side and indices, since memory is lent.
 // A link is a side: k is branch k met at its first end, 256 + k is branch k met at its second end, 512 is none.
 // So the scan finds the next side by one load, and the bus at the other end of a side by another, without a comparison of buses.
 #[derive(Clone, Copy)]
@@ -21,7 +21,7 @@ pub struct Wires {
     pub far: [u8; 512],
 }
 
-// The latent capacity of each branch from its first end to its second, and back.
+// The latent capacity of each branch from its first end to its second, and back: two rows, as document 01 has them, each handed on whole.
 #[derive(Clone, Copy)]
 pub struct Latent {
     pub ahead: [u32; 256],
@@ -36,7 +36,7 @@ pub struct Work {
     pub latent: Latent,
 }
 
-// A route is its goal, its smallest latent capacity and its start.
+// A route is its goal, its smallest latent capacity and its start. No Option: document 01 names both ends of a search, a route or a group.
 #[derive(Clone, Copy)]
 pub enum Search {
     Route(usize, u32, usize),
@@ -111,6 +111,7 @@ fn seed(buses: usize, roles: [u8; 128], mut marks: [u16; 128], mut queue: [u8; 1
             marks[v] = 1;
             queue[count] = v as u8;
             origin[v] = v as u8;
+            // The length of the queue so far, and no index of the loop.
             count += 1;
         }
     }
@@ -173,6 +174,7 @@ pub fn explore(wires: Wires, work: Work, roles: [u8; 128]) -> Found
 {
     let mut tree = seed(wires.buses, roles, work.marks, work.queue);
     let mut at: usize = 0;
+    // No `for` here nor below: the queue grows while it is walked, and a side names the one after it.
     let answer = 'scan: loop {
         if at >= tree.count {
             break 'scan Search::Group;

@@ -33,7 +33,7 @@ pub struct Plan {
     pub load: [u32; 128],
 }
 
-// Refusal 21, then 1 to 8, for so many lent flow numbers and table bytes.
+// Refusal 21, then 1 to 8, for so many lent flow numbers and table bytes: only lengths, since the lists stay with the call that asks.
 pub fn check_lent(percent: u32, book: &[u8], flows: usize, bytes: usize) -> Answer
     ensures { result ≡ lent_check percent book.now flows bytes }
 {
@@ -195,6 +195,8 @@ fn short_number(
 }
 
 // The record of branch k, on its stretch: out of service; without flow, spared as it stands; or judged by its loss.
+// Network, service, limits and latent capacities come apart, here and in `reroute`: limits are a plan's normal or second ones, and latent capacities those of
+// a flow or raised, so a struct of them would be put together for each call.
 pub fn put_verdict(
     rec: &mut [u8],
     wires: Wires,
@@ -221,7 +223,7 @@ pub fn put_verdict(
         record::write(rec, 1, 0, [0u8; 16], reroute);
         return;
     };
-    // If its loss would island, it is short by its whole flow.
+    // If its loss would island, it is short by its whole flow. The number is the byte of the record, whose reader gives any.
     let mut number: u8 = 2;
     if short.excess == quantity::apart(live[k], latent.ahead[k]) {
         number = short_number(wires, served, live, k, short.group);

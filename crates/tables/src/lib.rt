@@ -73,6 +73,7 @@ fn writing_of(rest: &[u8], injections: usize, branches: usize, book: usize) -> O
     Some(Writing {
         buses,
         count,
+        // A cast: std has no `From` for it, and the proof shows that it fits.
         factor: factor as u32,
         injections,
         branches,
