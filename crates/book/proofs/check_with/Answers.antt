@@ -12,12 +12,6 @@ returns-in_err-check_head c =
     let e = c.check_head.ensures in
     handed_on c.in_err-check_head.was c.from_residual.ensures ∙ e ∙ sym (rw (← e) (stands _ _ (gave_up c.in_err-check_head.was)))
 
-pub check_body-requires : goal.check_body-requires
-check_body-requires c =
-    let w = c.requires in
-    let r = head_range _ _ w (sym c.check_head.ensures ∙ c.in_ok-check_head.was) in
-    (w, record { few_buses = r.few_buses; few_branches = r.few_branches })
-
 pub returns : goal.returns
 unfolding check_of
 returns c =

@@ -13,9 +13,3 @@ pub loop-k-preserved : goal.loop-k-preserved
 loop-k-preserved c =
     let fit : SFits w32 c.injection_at.result = sfits_of c.injection_at.type_inv in
     rw (to_z-of_z fit) (fill_more _ _ _ _ _ _ c.loop-k-test.true c.requires.1 c.loop-k.invariant c.injection_at.ensures)
-
-pub shape_of-out : goal.shape_of-out
-shape_of-out c = c.loop-k.invariant.long
-
-pub returns : goal.returns
-returns c = fill_end _ _ _ _ _ c.loop-k-test.false c.loop-k.invariant

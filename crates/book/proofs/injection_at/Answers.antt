@@ -16,8 +16,3 @@ pub signed-requires : goal.signed-requires
 signed-requires c =
     let a = c.args in
     rw c.bus_at-x.ensures (omega (arith, field_lt a.book.now (32 + 21 * a.k + 1) 20))
-
-pub returns : goal.returns
-returns c =
-    let fit : SFits w32 c.signed.result = sfits_of c.signed.type_inv in
-    rw (to_z-of_z fit) (c.signed.ensures ∙ ap (λ (x : Bus). of_size (eqb x.sign 1) x.size) c.bus_at-x.ensures)

@@ -46,11 +46,3 @@ move_into-requires c =
     let room : c.bytes_for-end.result ≤ length c.args.out.now = omega (arith, good.fits, long) in
     let part_long : length (take c.bytes_for-end.result c.args.out.now) ≡ c.bytes_for-end.result = length-take-le _ _ room in
     record { head = c.head_of-h.ensures; book = good.book; exact = part_long ∙ c.bytes_for-end.ensures }
-
-pub returns : goal.returns
-returns c =
-    let bytes : Bytes c.args.book.now = search rules in
-    let long : let a = c.args in c.bytes_for-end.result ≡ bytes_for a.form (buses_in a.book.now) (branches_in a.book.now) = c.bytes_for-end.ensures
-    ∙ length_by _ _ c.args.form c.head_of-h.ensures in
-    move_done _ _ _ bytes _ c.check.ensures _ _ _ c.in_ok-check.was long c.move_into.ensures
-    (sym c.in_ok-check.was)

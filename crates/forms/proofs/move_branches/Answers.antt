@@ -11,9 +11,3 @@ pub loop-k-preserved : goal.loop-k-preserved
 loop-k-preserved c =
     packing_more _ _ _ _ _ _ _ _ _ c.loop-k-test.true c.loop-k.invariant
     (ap (branch_values c.args.form) c.branch_at-x.ensures) c.put_branch.ensures
-
-pub shape_of-out : goal.shape_of-out
-shape_of-out c = c.loop-k.invariant.long
-
-pub returns : goal.returns
-returns c = packing_end _ _ _ _ _ _ _ c.loop-k-test.false c.loop-k.invariant

@@ -10,9 +10,3 @@ loop-k-init c = packing_start _ _ _ _ _
 pub loop-k-preserved : goal.loop-k-preserved
 loop-k-preserved c =
     packing_more _ _ _ _ _ _ _ _ _ c.loop-k-test.true c.loop-k.invariant (ap bus_fields c.bus_at.ensures) c.put_bus.ensures
-
-pub shape_of-out : goal.shape_of-out
-shape_of-out c = c.loop-k.invariant.long
-
-pub returns : goal.returns
-returns c = packing_end _ _ _ _ _ _ _ c.loop-k-test.false c.loop-k.invariant

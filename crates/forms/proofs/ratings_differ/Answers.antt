@@ -12,6 +12,3 @@ returns-then-x c =
 pub loop-k-preserved : goal.loop-k-preserved
 loop-k-preserved c =
     alike_more _ _ _ _ c.loop-k-test.true c.loop-k.invariant c.branch_at-x.ensures c.if-x.false
-
-pub returns : goal.returns
-returns c = alike_end _ _ _ c.loop-k-test.false c.loop-k.invariant

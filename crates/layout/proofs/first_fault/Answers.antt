@@ -10,6 +10,3 @@ returns-in-Some g c = λ f t. let l = c.loop-k-test.true in scan_stop f _ _ _ l 
 
 pub loop-k-preserved : goal.loop-k-preserved
 loop-k-preserved g c = λ f t. let l = c.loop-k-test.true in scan_more f _ _ l (c.loop-k.invariant f t) (t _ l _ c.in_default.ensures)
-
-pub returns : goal.returns
-returns g c = λ f t. scan_end f _ _ c.loop-k-test.false (c.loop-k.invariant f t)

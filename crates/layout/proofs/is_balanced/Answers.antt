@@ -10,13 +10,6 @@ use Rattle.layout.proofs.is_balanced.Goals as goal
 pub loop-k-init : goal.loop-k-init
 loop-k-init g c = (room_start _ (refl, refl), λ h t. tally_start h _ _ (refl, refl))
 
-pub count_in-sums-requires : goal.count_in-sums-requires
-count_in-sums-requires g c =
-    let fit : SFits w32 c.injection.result = sfits_of c.injection.type_inv in
-    let l = c.loop-k-test.true in
-    let r = room_for _ _ _ l c.requires.few c.loop-k.invariant.0 in
-    (r.0, r.1, rw (to_z-of_z fit) (c.requires.small _ l _ c.injection.ensures))
-
 pub loop-k-preserved : goal.loop-k-preserved
 loop-k-preserved g c =
     let fit : SFits w32 c.injection.result = sfits_of c.injection.type_inv in
@@ -25,6 +18,3 @@ loop-k-preserved g c =
       room_more _ _ _ _ (c.requires.small _ l _ c.injection.ensures) c.loop-k.invariant.0 counted,
       λ h t. tally_more h _ _ _ _ _ l (t _ l _ c.injection.ensures) (c.loop-k.invariant.1 h t) counted,
     )
-
-pub returns : goal.returns
-returns g c = λ h t. tally_end h _ _ _ c.loop-k-test.false (c.loop-k.invariant.1 h t)

@@ -7,8 +7,3 @@ use Rattle.layout.proofs.set_status.Goals as goal
 pub branch_place-at-requires : goal.branch_place-at-requires
 branch_place-at-requires c =
     (omega (arith, c.head_of-h.ensures.buses_are, field_lt c.args.book.now 0 8), omega (arith, c.requires.0))
-
-pub returns : goal.returns
-returns c =
-    let h = c.head_of-h.ensures in
-    c.set_bit.ensures ∙ rw (c.width.ensures.width_is, c.branch_place-at.ensures.place_is, h.form_is, h.buses_are) refl

@@ -18,9 +18,3 @@ loop-k-preserved c =
     let z : ℤ = entry c.args.injections.now c.loop-k.k in
     let fit : SFits w32 z = search rules in
     packing_more _ _ _ _ _ _ _ _ _ c.loop-k-test.true c.loop-k.invariant (ap bus_fields (rw (to_z-of_z fit) at c.bus_of.ensures)) c.put_bus.ensures
-
-pub shape_of-out : goal.shape_of-out
-shape_of-out c = c.loop-k.invariant.long
-
-pub returns : goal.returns
-returns c = packing_end _ _ _ _ _ _ _ c.loop-k-test.false c.loop-k.invariant

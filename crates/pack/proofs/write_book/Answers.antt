@@ -38,7 +38,3 @@ pack_into-requires c =
     let a = c.args in
     let l = part_long ∙ c.bytes_for-end.ensures in
     (l, exact_fits a.form a.buses a.count a.factor a.injections.now a.branches.now a.out.now _ c.check_tables.ensures c.in_ok-check_tables.was (take c.bytes_for-end.result a.out.now) l)
-
-pub returns : goal.returns
-returns c =
-    write_done _ _ _ _ _ _ _ _ c.check_tables.ensures c.in_ok-check_tables.was _ _ _ c.bytes_for-end.ensures c.pack_into.ensures (sym c.in_ok-check_tables.was)

@@ -15,9 +15,6 @@ use Rattle.state.proofs.fill_flow.Goals as goal
 pub loop-k-init : goal.loop-k-init
 loop-k-init c = (c.requires, omega arith, refl, sym (headed_none _ _))
 
-pub difference-requires : goal.difference-requires
-difference-requires c = let s = c.loop-k.invariant.0.small c.loop-k.k c.loop-k-test.true in (omega (arith, s), omega (arith, s))
-
 pub loop-k-preserved : goal.loop-k-preserved
 loop-k-preserved c =
     let v = c.loop-k.invariant in
@@ -26,11 +23,3 @@ loop-k-preserved c =
     let fit : SFits w32 c.difference.result = sfits_of c.difference.type_inv in
     let l : k < length a.flow.now = omega (arith, v.0.fits_in) in
     (v.0, omega arith, simp length-set v.2, rw (to_z-of_z fit, c.difference.ensures, v.3) (headed_more k (λ j. pos (nth a.live j) -ℤ pos (nth a.ahead j)) a.flow.now l))
-
-pub shape_of-flow : goal.shape_of-flow
-shape_of-flow c = c.loop-k.invariant.2
-
-pub returns : goal.returns
-returns c =
-    let e : c.loop-k.k ≡ c.args.branches = omega arith in
-    rw e at c.loop-k.invariant.3

@@ -9,17 +9,6 @@ use Rattle.state.proofs.rewrite.Goals.{then-is_set, else-is_set}
 pub loop-k-init : goal.loop-k-init
 loop-k-init c = going_none _ _ _ _ _ c.requires.0 c.requires.1
 
-pub put_verdict-requires : goal.put_verdict-requires
-put_verdict-requires c =
-    let g = c.loop-k.invariant in
-    let u = c.loop-k-test.true in
-    (g.poised, u, simp (length-take, length-drop) (omega (arith, u, g.room, g.long)))
-
-pub counted-judged-requires : goal.counted-judged-requires
-counted-judged-requires c =
-    let g = c.loop-k.invariant in
-    omega (arith, c.loop-k-test.true, g.low, g.poised.state.held.linked.wired.size)
-
 pub loop-k-preserved : goal.loop-k-preserved
 loop-k-preserved c =
     let g = c.loop-k.invariant in
@@ -29,9 +18,3 @@ loop-k-preserved c =
           going_written _ _ _ _ _ g u (sym c.is_set.ensures ∙ w.if-is_set.true) w.put_verdict.ensures w.table-is (w.judged-is ∙ w.counted-judged.ensures)
       | else-is_set w ↦ rw (w.table-is, w.judged-is) (going_kept _ _ _ _ _ g u (sym c.is_set.ensures ∙ w.if-is_set.false))
     ]
-
-pub shape_of-table : goal.shape_of-table
-shape_of-table c = c.loop-k.invariant.long
-
-pub returns : goal.returns
-returns c = going_all _ _ _ _ _ c.loop-k.invariant (omega arith)

@@ -2,9 +2,6 @@
 use Rattle.state.proofs.Surveying.{plannable_here, lendable_here, surveyed, unsurveyed}
 use Rattle.state.proofs.survey_lent.Goals as goal
 
-pub rows_of-rows-requires : goal.rows_of-rows-requires
-rows_of-rows-requires c = (c.requires.book, c.requires.full_at_most)
-
 pub prepare-requires : goal.prepare-requires
 prepare-requires c =
     plannable_here _ c.args.flow.now c.requires _ c.rows_of-rows.ensures

@@ -18,9 +18,3 @@ loop-k-preserved c =
       fill_more _ _ _ _ _ _ c.loop-k-test.true c.requires c.loop-k.invariant.0 ((rw (to_z-of_z fit) at c.above.ensures) ∙ ap pos_part x.ensures),
       fill_more _ _ _ _ _ _ c.loop-k-test.true c.requires c.loop-k.invariant.1 ((rw (to_z-of_z fit) at c.below.ensures) ∙ ap neg_part x.ensures),
     )
-
-pub returns : goal.returns
-returns c = record {
-  gain_row = fill_end _ _ _ _ _ c.loop-k-test.false c.loop-k.invariant.0;
-  load_row = fill_end _ _ _ _ _ c.loop-k-test.false c.loop-k.invariant.1;
-}
