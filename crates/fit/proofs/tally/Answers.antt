@@ -8,4 +8,5 @@ pub loop-k-init : goal.loop-k-init
 loop-k-init c = tallying_none _ _ _ _ _ _ c.requires (search rules)
 
 pub loop-k-preserved : goal.loop-k-preserved
-loop-k-preserved c = tallying_more _ _ _ _ _ _ c.loop-k.invariant c.loop-k-test.true refl refl
+loop-k-preserved c =
+    rw (c.from.ensures, c.from-in-loop-k.ensures) (tallying_more _ _ _ _ _ _ c.loop-k.invariant c.loop-k-test.true refl refl)
