@@ -71,8 +71,7 @@ fn sum(buses: usize, row: [u32; 128]) -> u32
 }
 
 // Moves x along the way that the marks lead back from the goal: each branch loses it one way and gains it the other.
-// The steps are counted for the proof that it ends. Marks and ends are cast: with `usize::from` between a row's entry and the index, the walk's proof did not
-// close.
+// The steps are counted for the proof that it ends.
 fn shift(wires: Wires, marks: [u16; 128], mut latent: Latent, goal: usize, x: u32) -> Latent
     requires { Movable wires marks latent goal x }
     ensures { Moves wires marks latent goal x result }
@@ -80,13 +79,13 @@ fn shift(wires: Wires, marks: [u16; 128], mut latent: Latent, goal: usize, x: u3
     let mut at = goal;
     let mut steps: usize = 0;
     loop {
-        let mark = marks[at] as usize;
+        let mark = usize::from(marks[at]);
         if mark == 1 {
             return latent;
         }
         let k = mark - 2;
-        let near = wires.first[k] as usize;
-        let far = wires.second[k] as usize;
+        let near = usize::from(wires.first[k]);
+        let far = usize::from(wires.second[k]);
         let p = latent.ahead[k];
         let q = latent.back[k];
         if far == at {

@@ -52,8 +52,7 @@ pub struct Found {
     pub work: Work,
 }
 
-// From the highest branch down, so that `head` always holds the next side at its bus. Here and in the scan a row's entry that is an index is cast: with
-// `usize::from` between the two, neither proof closed.
+// From the highest branch down, so that `head` always holds the next side at its bus.
 pub fn link(buses: usize, branches: usize, first: [u8; 256], second: [u8; 256]) -> Wires
     requires { Linkable buses branches first second }
     ensures { Wiring buses branches first second result }
@@ -62,10 +61,11 @@ pub fn link(buses: usize, branches: usize, first: [u8; 256], second: [u8; 256]) 
     let mut after = [512u16; 512];
     let mut far = [0u8; 512];
     for k in (0..branches).rev() {
-        let a = first[k] as usize;
-        let b = second[k] as usize;
+        let a = usize::from(first[k]);
+        let b = usize::from(second[k]);
         after[k] = head[a];
         after[k + 256] = head[b];
+        // A cast, here and below: std has no `From` that narrows, and the proof shows that it fits.
         head[a] = k as u16;
         head[b] = (k + 256) as u16;
         far[k] = second[k];
@@ -179,27 +179,27 @@ pub fn explore(wires: Wires, work: Work, roles: [u8; 128]) -> Found
         if at >= tree.count {
             break 'scan Search::Group;
         }
-        let here = tree.queue[at] as usize;
+        let here = usize::from(tree.queue[at]);
         let low = tree.room[here];
-        let mut side = wires.head[here] as usize;
+        let mut side = usize::from(wires.head[here]);
         while side < 512 {
             let k = side % 256;
-            let to = wires.far[side] as usize;
+            let to = usize::from(wires.far[side]);
             let spare = away(side, work.latent.ahead[k], work.latent.back[k]);
             if spare > 0 && tree.marks[to] == 0 {
                 let least = low.min(spare);
-                let start = tree.origin[here] as usize;
+                let start = tree.origin[here];
                 let tail = tree.count;
                 tree.marks[to] = (k + 2) as u16;
                 tree.queue[tail] = to as u8;
                 tree.room[to] = least;
-                tree.origin[to] = start as u8;
+                tree.origin[to] = start;
                 tree.count = tail + 1;
                 if roles[to] == 2 {
-                    break 'scan Search::Route(to, least, start);
+                    break 'scan Search::Route(to, least, usize::from(start));
                 }
             }
-            side = wires.after[side] as usize;
+            side = usize::from(wires.after[side]);
         }
         at += 1;
     };

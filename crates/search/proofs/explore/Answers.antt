@@ -1,6 +1,6 @@
 -- The scan: every queued bus's branches are walked once, in rising number. The laws of `Scan` carry it; each way out is one law of `Answering`.
 use Prim.Native.Nat.{◌<◌}
-use mathlib.Core.Path.{refl}
+use mathlib.Core.Path.{refl, sym}
 use native.Mathlib.Omega.{arith}
 use borrow.Author.Tests.{eqb-true}
 use Rattle.rows.specs.Row.{nth}
@@ -23,7 +23,7 @@ bounds-tree-to-then-tree-to-eq0 c =
 pub bounds-tree-tail : goal.bounds-tree-tail
 bounds-tree-tail c =
     let in_row : c.loop-side.side < 512 = omega arith in
-    let place_left : c.loop-side.tree.count < 128 = turn_room c.loop-side.invariant in_row refl refl c.away-spare.ensures
+    let place_left : c.loop-side.tree.count < 128 = turn_room c.loop-side.invariant in_row refl (sym c.from-to.ensures) c.away-spare.ensures
     c.if-spare-gt0.true
     (eqb-true _ _ c.if-tree-to-eq0.true-raw) _ c.min-least.ensures in
     omega (arith, place_left)
@@ -51,16 +51,16 @@ loop-side-preserved c =
     let in_row : c.loop-side.side < 512 = omega arith in
     let R = c.loop-side.invariant in
     let s = c.away-spare.ensures in
-    elim c.if-spare-gt0.branch [
+    rw c.from-side-in-loop-side.ensures (elim c.if-spare-gt0.branch [
       | then-spare-gt0+then-tree-to-eq0+else-roles-to-eq2 w ↦
-          turn_mark R in_row refl refl s w.if-spare-gt0.true w.if-tree-to-eq0.true _ w.min-least.ensures w.if-roles-to-eq2.false w.tree-is
+          turn_mark R in_row refl (sym c.from-to.ensures) s w.if-spare-gt0.true w.if-tree-to-eq0.true _ w.min-least.ensures w.if-roles-to-eq2.false w.tree-is
       | else-spare-gt0 w ↦
-          rw w.tree-is (turn_skip R in_row refl refl s (
+          rw w.tree-is (turn_skip R in_row refl (sym c.from-to.ensures) s (
           elim w.else-spare-gt0.branch [
             | else-spare-gt0-via-then-spare-gt0+else-tree-to-eq0 u ↦ λ g. u.if-tree-to-eq0.false
             | else-spare-gt0-via-else-spare-gt0 u ↦ λ g. absurd (omega arith)
           ]))
-    ]
+    ])
 
 pub scan-preserved : goal.scan-preserved
 scan-preserved c = turn_end c.loop-side.invariant (omega arith)
@@ -74,8 +74,8 @@ returns c =
           let t = w.loop-side-test.true in
           let z = w.if-tree-to-eq0.true in
           searched_route
-          (turn_tree R t refl refl w.away-spare.ensures w.if-spare-gt0.true z _ w.min-least.ensures)
-          (turn_hit R t refl refl w.away-spare.ensures w.if-spare-gt0.true z _ w.min-least.ensures w.if-roles-to-eq2.true)
-          (stopped _ _ R.scan (turn_room R t refl refl w.away-spare.ensures w.if-spare-gt0.true z _ w.min-least.ensures))
-          c.packed.ensures w.tree-is w.answer-is
+          (turn_tree R t refl (sym w.from-to.ensures) w.away-spare.ensures w.if-spare-gt0.true z _ w.min-least.ensures)
+          (turn_hit R t refl (sym w.from-to.ensures) w.away-spare.ensures w.if-spare-gt0.true z _ w.min-least.ensures w.if-roles-to-eq2.true)
+          (stopped _ _ R.scan (turn_room R t refl (sym w.from-to.ensures) w.away-spare.ensures w.if-spare-gt0.true z _ w.min-least.ensures))
+          c.packed.ensures w.tree-is (rw w.from.ensures at w.answer-is)
     ]

@@ -7,4 +7,4 @@ pub loop-k-init : goal.loop-k-init
 loop-k-init c = chained_none c.requires
 
 pub loop-k-preserved : goal.loop-k-preserved
-loop-k-preserved c = chain_falls c.loop-k.invariant (omega arith)
+loop-k-preserved c = rw (c.from-a.ensures, c.from-b.ensures) (chain_falls c.loop-k.invariant (omega arith))
