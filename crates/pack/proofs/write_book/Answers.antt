@@ -1,40 +1,36 @@
 -- `write_book` keeps its promise: a refusal leaves the bytes, and an accepted book fills its exact length.
 use native.Mathlib.Omega.{arith}
-use mathlib.Core.Path.{◌≡◌, sym, ◌∙◌}
-use lib.ListN.{length, take}
+use mathlib.Core.Path.{sym, ◌∙◌}
 use lib.Seq.{length-take-le}
-use Rattle.pack.proofs.Writable.{Writable, writable, exact_fits, write_refused, write_done}
+use Rattle.pack.proofs.Writable.{writable, exact_fits, write_refused, write_done}
 use Rattle.answer.proofs.Refusals.{gave_up, handed_on}
 use Rattle.pack.proofs.write_book.Goals as goal
 
-pub returns-in_err-check_tables : goal.returns-in_err-check_tables
-returns-in_err-check_tables c =
-    write_refused _ _ _ _ _ _ _ _ c.check_tables.ensures _ (gave_up c.in_err-check_tables.was) (handed_on c.in_err-check_tables.was c.from_residual.ensures)
+pub returns-in_err-check : goal.returns-in_err-check
+returns-in_err-check c =
+    write_refused _ _ _ _ _ _ _ _ c.check.ensures _ (gave_up c.in_err-check.was) (handed_on c.in_err-check.was c.from_residual.ensures)
 
 pub bytes_for-end-requires : goal.bytes_for-end-requires
 bytes_for-end-requires c =
-    let good : let a = c.args in Writable a.form a.buses a.count a.factor a.injections.now a.branches.now (length a.out.now) = let a = c.args in
-    writable a.form a.buses a.count a.factor a.injections.now a.branches.now a.out.now _ c.check_tables.ensures c.in_ok-check_tables.was in
-    let w = good in (omega (arith, w.range.few_buses), omega (arith, w.range.few_branches))
+    let good = writable _ _ _ _ _ _ _ _ c.check.ensures c.in_ok-check.was in
+    (omega (arith, good.range.few_buses), omega (arith, good.range.few_branches))
 
 pub slice_bounds-pack_into-end : goal.slice_bounds-pack_into-end
 slice_bounds-pack_into-end c =
-    let good : let a = c.args in Writable a.form a.buses a.count a.factor a.injections.now a.branches.now (length a.out.now) = let a = c.args in
-    writable a.form a.buses a.count a.factor a.injections.now a.branches.now a.out.now _ c.check_tables.ensures c.in_ok-check_tables.was in
+    let good = writable _ _ _ _ _ _ _ _ c.check.ensures c.in_ok-check.was in
     omega (arith, good.fits, c.bytes_for-end.ensures)
 
 pub slice_bounds-pack_into-end-2 : goal.slice_bounds-pack_into-end-2
 slice_bounds-pack_into-end-2 c =
-    let good : let a = c.args in Writable a.form a.buses a.count a.factor a.injections.now a.branches.now (length a.out.now) = let a = c.args in
-    writable a.form a.buses a.count a.factor a.injections.now a.branches.now a.out.now _ c.check_tables.ensures c.in_ok-check_tables.was in
-    let part_long : length (take c.bytes_for-end.result c.args.out.now) ≡ c.bytes_for-end.result = length-take-le _ _ (omega (arith, good.fits, c.bytes_for-end.ensures)) in
-    sym part_long
+    let good = writable _ _ _ _ _ _ _ _ c.check.ensures c.in_ok-check.was in
+    sym (length-take-le c.bytes_for-end.result c.args.out.now (omega (arith, good.fits, c.bytes_for-end.ensures)))
 
 pub pack_into-requires : goal.pack_into-requires
 pack_into-requires c =
-    let good : let a = c.args in Writable a.form a.buses a.count a.factor a.injections.now a.branches.now (length a.out.now) = let a = c.args in
-    writable a.form a.buses a.count a.factor a.injections.now a.branches.now a.out.now _ c.check_tables.ensures c.in_ok-check_tables.was in
-    let part_long : length (take c.bytes_for-end.result c.args.out.now) ≡ c.bytes_for-end.result = length-take-le _ _ (omega (arith, good.fits, c.bytes_for-end.ensures)) in
-    let a = c.args in
-    let l = part_long ∙ c.bytes_for-end.ensures in
-    (l, exact_fits a.form a.buses a.count a.factor a.injections.now a.branches.now a.out.now _ c.check_tables.ensures c.in_ok-check_tables.was (take c.bytes_for-end.result a.out.now) l)
+    let good = writable _ _ _ _ _ _ _ _ c.check.ensures c.in_ok-check.was in
+    let l = length-take-le c.bytes_for-end.result c.args.out.now (omega (arith, good.fits, c.bytes_for-end.ensures)) ∙ c.bytes_for-end.ensures in
+    (l, exact_fits _ _ _ _ _ _ _ _ c.check.ensures c.in_ok-check.was _ l)
+
+pub returns : goal.returns
+returns c =
+    write_done _ _ _ _ _ _ _ _ c.check.ensures c.in_ok-check.was _ _ _ c.bytes_for-end.ensures c.pack_into.ensures (sym c.in_ok-check.was)

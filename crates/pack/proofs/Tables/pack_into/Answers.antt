@@ -1,6 +1,6 @@
 -- `pack_into` writes the bytes of the tables' book.
 use Rattle.pack.proofs.Writable.{write_accepted, written}
-use Rattle.pack.proofs.pack_into.Goals as goal
+use Rattle.pack.proofs.Tables.pack_into.Goals as goal
 
 pub put_head-requires : goal.put_head-requires
 put_head-requires c =
