@@ -17,53 +17,55 @@ fn room(above: u32, below: u32) -> u32
     1000000 + below - above
 }
 
-// Whether an injection would leave its range. Nothing is added to kw, which may be any number.
-fn leaves_range(book: &[u8], up: usize, down: usize, kw: u32) -> bool
-    requires { TwoBuses book.now up down }
-    ensures { result ≡ leaves_range book.now up down kw }
-{
-    let x = book::injection_at(book, up);
-    if room(quantity::above(x), quantity::below(x)) < kw {
-        return true;
-    }
-    let y = book::injection_at(book, down);
-    room(quantity::below(y), quantity::above(y)) < kw
-}
-
-// Refusals 21 and 1 to 8, then 19 and 20.
-fn check(
-    percent: u32,
-    book: &[u8],
-    flows: usize,
-    bytes: usize,
+// A move of load between two buses: the injection of bus `up` rises by kw, that of bus `down` falls by it.
+#[derive(Clone, Copy)]
+struct Shift {
     up: usize,
     down: usize,
     kw: u32,
-) -> Answer
-    ensures { result ≡ transfer_check percent book.now flows bytes up down kw }
-{
-    state::check_lent(percent, book, flows, bytes)?;
-    let head = layout::head_of(book);
-    if head.buses <= up || head.buses <= down || up == down {
-        return Err(Refusal::NoTwoBuses);
-    }
-    if leaves_range(book, up, down, kw) {
-        return Err(Refusal::InjectionOutside);
-    }
-    Ok(())
 }
 
-// Both injections are written over where they stand.
-fn put_injections(book: &mut [u8], up: usize, down: usize, kw: u32)
-    requires { Shiftable book.old up down kw }
-    ensures { book.new ≡ shifted_bytes book.old up down kw }
-{
-    let x = book::injection_at(book, up);
-    let y = book::injection_at(book, down);
-    let risen = pack::net_bus(quantity::above(x) + kw, quantity::below(x));
-    let fallen = pack::net_bus(quantity::above(y), quantity::below(y) + kw);
-    layout::put_bus(book, up, risen);
-    layout::put_bus(book, down, fallen);
+impl Shift {
+    // Whether an injection would leave its range. Nothing is added to kw, which may be any number.
+    fn leaves_range(self, book: &[u8]) -> bool
+        requires { TwoBuses book.now self.up self.down }
+        ensures { result ≡ leaves_range book.now self.up self.down self.kw }
+    {
+        let x = book::injection_at(book, self.up);
+        if room(quantity::above(x), quantity::below(x)) < self.kw {
+            return true;
+        }
+        let y = book::injection_at(book, self.down);
+        room(quantity::below(y), quantity::above(y)) < self.kw
+    }
+
+    // Refusals 21 and 1 to 8, then 19 and 20.
+    fn check(self, percent: u32, book: &[u8], flows: usize, bytes: usize) -> Answer
+        ensures { result ≡ transfer_check percent book.now flows bytes self.up self.down self.kw }
+    {
+        state::check_lent(percent, book, flows, bytes)?;
+        let head = layout::head_of(book);
+        if head.buses <= self.up || head.buses <= self.down || self.up == self.down {
+            return Err(Refusal::NoTwoBuses);
+        }
+        if self.leaves_range(book) {
+            return Err(Refusal::InjectionOutside);
+        }
+        Ok(())
+    }
+
+    // Both injections are written over where they stand.
+    fn put_injections(self, book: &mut [u8])
+        requires { Shiftable book.old self.up self.down self.kw }
+        ensures { book.new ≡ shifted_bytes book.old self.up self.down self.kw }
+    {
+        let x = book::injection_at(book, self.up);
+        let y = book::injection_at(book, self.down);
+        let risen = pack::net_bus(quantity::above(x) + self.kw, quantity::below(x));
+        let fallen = pack::net_bus(quantity::above(y), quantity::below(y) + self.kw);
+        layout::put_bus(book, self.up, risen);
+        layout::put_bus(book, self.down, fallen);
+    }
 }
 
 // Refusals 21, 1 to 8, 19, 20, 11 and 12; accepted, the injection of bus `up` rises by kw and that of bus `down` falls by it, kw is rerouted from
@@ -80,7 +82,8 @@ pub fn move_load(
 ) -> Answer
     ensures { TransferEnds percent up down kw (lent book.old flow.old table.old) (lent book.new flow.new table.new) result }
 {
-    check(percent, book, flow.len(), table.len(), up, down, kw)?;
+    let shift = Shift { up, down, kw };
+    shift.check(percent, book, flow.len(), table.len())?;
     let lent = state::survey_lent(percent, book, flow).ok_or(Refusal::FlowUnfit)?;
     let Survey {
         wires,
@@ -100,6 +103,6 @@ pub fn move_load(
     state::fill_flow(flow, wires.branches, live, left.ahead);
     let raised = state::raise(wires.branches, live, brief, left);
     state::rewrite(table, wires, served, brief, raised, listed);
-    put_injections(book, up, down, kw);
+    shift.put_injections(book);
     Ok(())
 }

@@ -1,12 +1,11 @@
 -- The move of load: its checks, the test of the lent flow, the reroute between the two buses, and what is then written.
 use borrow.Author.Rules.{rules}
-use mathlib.Core.Path.{◌≡◌, refl, sym, ap, ◌∙◌}
-use Rattle.std.specs.Prelude.{None}
+use mathlib.Core.Path.{refl, sym, ap, ◌∙◌}
 use Rattle.std.specs.Result.{result_ok}
 use Rattle.answer.specs.Answer.{refused}
-use Rattle.answer.proofs.Refusals.{gave_up, handed, handed_on, wanted}
+use Rattle.answer.proofs.Refusals.{gave_up, handed_on}
 use Rattle.state.proofs.Surveying.{surveyable}
-use Rattle.transfer.proofs.TransferEnds.{ends_refused, may, ends_unfit, deliverable_here, listed_here, ends_short}
+use Rattle.transfer.proofs.TransferEnds.{ends_refused, may, deliverable_here, listed_here, ends_short}
 use Rattle.transfer.proofs.TransferEnds.{fillable_here, raisable_here, poised_here, ends_moved}
 use Rattle.transfer.proofs.move_load.Goals as goal
 
