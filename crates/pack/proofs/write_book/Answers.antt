@@ -2,7 +2,7 @@
 use native.Mathlib.Omega.{arith}
 use mathlib.Core.Path.{sym, ◌∙◌}
 use lib.Seq.{length-take-le}
-use Rattle.pack.proofs.Writable.{writable, exact_fits, write_refused, write_done}
+use Rattle.pack.proofs.Writable.{writable, exact_fits, write_refused}
 use Rattle.answer.proofs.Refusals.{gave_up, handed_on}
 use Rattle.pack.proofs.write_book.Goals as goal
 
@@ -30,7 +30,3 @@ pack_into-requires c =
     let good = writable _ _ _ _ _ _ _ _ c.check.ensures c.in_ok-check.was in
     let l = length-take-le c.bytes_for-end.result c.args.out.now (omega (arith, good.fits, c.bytes_for-end.ensures)) ∙ c.bytes_for-end.ensures in
     (l, exact_fits _ _ _ _ _ _ _ _ c.check.ensures c.in_ok-check.was _ l)
-
-pub returns : goal.returns
-returns c =
-    write_done _ _ _ _ _ _ _ _ c.check.ensures c.in_ok-check.was _ _ _ c.bytes_for-end.ensures c.pack_into.ensures (sym c.in_ok-check.was)

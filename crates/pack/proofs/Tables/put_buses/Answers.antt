@@ -7,7 +7,7 @@ use mir.Facts.{to_z-of_z}
 use lib.IntN.{ℤ}
 use Rattle.layout.specs.Inside.{bus_fields}
 use Rattle.pack.specs.Write.{entry}
-use Rattle.pack.proofs.Packing.{packing_start, packing_more, packing_end}
+use Rattle.pack.proofs.Packing.{packing_start, packing_more}
 use Rattle.pack.proofs.Tables.put_buses.Goals as goal
 
 pub loop-k-init : goal.loop-k-init
