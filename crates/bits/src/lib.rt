@@ -22,6 +22,7 @@ pub fn field(s: &[u8], at: usize, width: usize) -> u32
     ensures { result ≡ field s.now at width }
 {
     let k = at / 8;
+    // No `from_be_bytes`: a byte past the end counts as 0.
     let x = byte(s, k) * 16777216 + byte(s, k + 1) * 65536 + byte(s, k + 2) * 256 + byte(s, k + 3);
     (x >> (32 - at % 8 - width)) % (1u32 << width)
 }

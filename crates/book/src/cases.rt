@@ -10,7 +10,8 @@ use crate::injection_at;
 use layout::Head;
 use quantity::Kw;
 
-// The numbers of a case, a row for each: what the base flow keeps to, and what a loss is judged by. A branch in service may have limit 0, so
+// The numbers of a case, a row of fixed length for each, as document 01 hands them on: what the base
+// flow keeps to, and what a loss is judged by. A branch in service may have limit 0, so
 // `served` stands apart.
 #[derive(Clone, Copy)]
 pub struct CaseRows {

@@ -14,7 +14,7 @@ ghost use Rattle.forms.specs.Inside.{Movable};
 use answer::{Answer, Refusal};
 use layout::{Form, Head};
 
-// The ratings of some branch differ.
+// The ratings of some branch differ. No `any`: as a closure this body would have to ask that k is a branch and promise `differs` again.
 fn ratings_differ(book: &[u8], h: Head) -> bool
     requires { Small h }
     ensures { result ≡ some h.branches (λ k. differs (branch_after h.form h.buses book.now k)) }

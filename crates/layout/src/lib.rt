@@ -16,7 +16,7 @@ ghost use Rattle.layout.specs.Check.{outside, balances};
 use answer::Place;
 use quantity::Kva;
 
-// A branch of a new book has a second kVA, after the first.
+// A branch of a new book has a second kVA, after the first. Neither form is the absence of the other.
 #[derive(Clone, Copy, Debug, PartialEq, Eq)]
 pub enum Form {
     Old,
@@ -53,14 +53,15 @@ pub struct Head {
     pub spare: u32,
 }
 
-// A bus as the book has it: sign 1 is negative. Numbers and no enum, here and below: a book or a table may hold any, and its check names the wrong field.
+// A bus as the book has it: sign 1 is negative. A number, as its bit is: `put_bus` promises of any.
 #[derive(Clone, Copy)]
 pub struct Bus {
     pub sign: u32,
     pub size: u32,
 }
 
-// A branch as the book and the table beside it have it: status 1 is in service. In an old book both figures are the same.
+// A branch as the book and the table beside it have it: status 1 is in service. A number, since a table may hold any and its check names it. In an old book
+// both figures are the same.
 #[derive(Clone, Copy)]
 pub struct Branch {
     pub first: u32,

@@ -34,6 +34,7 @@ impl<'a> Line<'a> {
         ensures { Adds (number_text number) (number_room number) self.old self.new }
     {
         if let Some(n) = number {
+            // A cast: std has no `From` from a `usize`.
             self.put_next(n as u64);
         }
     }

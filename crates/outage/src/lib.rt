@@ -73,6 +73,7 @@ fn lose(
 }
 
 // Refusals 21 and 1 to 12, or the branch is out. The losses judged on the way are counted.
+// What is lent stays apart, as C hands it on.
 pub fn take_out_counted(
     percent: u32,
     book: &mut [u8],

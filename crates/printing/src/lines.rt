@@ -12,6 +12,7 @@ pub fn put_head(line: &mut Line<'_>, book: &[u8])
     ensures { Adds (head_text book.now) 41 line.old line.new }
 {
     let head = layout::head_of(book);
+    // Casts, here and below: std has no `From` from a `usize`.
     line.put_decimal(head.buses as u64);
     line.put_next(head.branches as u64);
 }

@@ -21,7 +21,7 @@ pub fn limit(rating: Kva, factor: u32, percent: u32) -> Kw
     ensures { result.0 ≡ limit_of rating.0 factor percent }
 {
     let product = u64::from(rating.0) * u64::from(factor) * u64::from(percent);
-    // A cast, here and below: std has no `From` for it, and the proof shows that it fits.
+    // A cast: std has no `From` for it, and the proof shows that it fits.
     Kw((product / 100000) as u32)
 }
 
@@ -52,7 +52,7 @@ pub fn signed(negative: bool, size: u32) -> i32
     requires { size ≤ 2147483647 }
     ensures { result ≡ of_size negative size }
 {
-    let x = size as i32;
+    let x = size.cast_signed();
     if negative { -x } else { x }
 }
 
@@ -61,7 +61,7 @@ pub fn difference(more: u32, fewer: u32) -> i32
     requires { (more ≤ 2147483647) × (fewer ≤ 2147483647) }
     ensures { result ≡ pos more -ℤ pos fewer }
 {
-    more as i32 - fewer as i32
+    more.cast_signed() - fewer.cast_signed()
 }
 
 // 1 where more leaves than enters: a zero has no sign.

@@ -13,7 +13,7 @@ pub struct Entry {
     pub group: [u8; 16],
 }
 
-// The stretch of branch k, cut for reading in this one place.
+// The stretch of branch k, cut for reading in this one place: a slice, as document 01 has it, whose 52 bytes stand in the clauses below.
 pub fn stretch(table: &[u8], k: usize) -> &[u8]
     requires { 52 * k + 52 ≤ length table.now }
     ensures { Stretch table.now k result.now }

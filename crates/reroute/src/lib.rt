@@ -17,7 +17,8 @@ pub struct Rest {
     pub deficit: [u32; 128],
 }
 
-// `left` is the whole surplus left, and `group` the smallest group with that excess. No Option: `left` says whether any is, and the group is there either way.
+// `left` is the whole surplus left, and `group` the smallest group with that excess. No Option: `Reroutes`
+// promises `left` and the group either way.
 #[derive(Clone, Copy)]
 pub struct Moved {
     pub latent: Latent,
@@ -40,6 +41,7 @@ pub struct Judgement {
     pub short: Option<Shortfall>,
 }
 
+// The byte that a search takes: 1 for a start, 2 for a goal.
 fn role(surplus: u32, deficit: u32) -> u8
     ensures { result ≡ role_of surplus deficit }
 {
@@ -71,7 +73,7 @@ fn sum(buses: usize, row: [u32; 128]) -> u32
 }
 
 // Moves x along the way that the marks lead back from the goal: each branch loses it one way and gains it the other.
-// The steps are counted for the proof that it ends.
+// A `loop`, since a mark says where it ends, and the steps are counted for the proof that it does.
 fn shift(wires: Wires, marks: [u16; 128], mut latent: Latent, goal: usize, x: u32) -> Latent
     requires { Movable wires marks latent goal x }
     ensures { Moves wires marks latent goal x result }

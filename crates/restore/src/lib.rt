@@ -29,6 +29,7 @@ fn anew(table: &[u8], branches: usize, branch: usize) -> [u8; 32]
 
 // Refusals 21, 1 to 9, 17 and 11; accepted, one status bit is set, and the records that aren't carrying are written anew.
 // A branch without flow has its whole limit left in each direction. The flow is tested by the normal limits, and losses are judged by the second.
+// What is lent stays apart, as C hands it on.
 pub fn bring_back(
     percent: u32,
     book: &mut [u8],

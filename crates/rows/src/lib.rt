@@ -9,5 +9,5 @@ pub fn two(row: &[u8], at: usize) -> usize
     requires { at + 2 ≤ length row.now }
     ensures { (result ≡ two_at row.now at) × (result < 65536) }
 {
-    usize::from(row[at]) * 256 + usize::from(row[at + 1])
+    usize::from(u16::from_be_bytes([row[at], row[at + 1]]))
 }

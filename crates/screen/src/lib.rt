@@ -8,6 +8,7 @@ use answer::Answer;
 use state::Plan;
 
 // Refusals 21, 1 to 8 and 12; accepted, a flow within the normal limits, and the record of every branch's loss, judged by the second.
+// What is lent stays apart, as C hands it on.
 pub fn screen(percent: u32, book: &[u8], flow: &mut [i32], table: &mut [u8]) -> Answer
     ensures { ScreenEnds percent (lent book.now flow.old table.old) (lent book.now flow.new table.new) result }
 {

@@ -28,7 +28,8 @@ pub struct Latent {
     pub back: [u32; 256],
 }
 
-// What one search works on: marks, all 0 at first, the queue, and the latent capacities.
+// What one search works on: marks, all 0 at first, the queue, and the latent capacities. A mark is 0 for none, 1 for a start, and else the branch that led
+// here plus 2: a number and no enum, since the rows hold no more and `byte` asks whether it is above 0.
 #[derive(Clone, Copy)]
 pub struct Work {
     pub marks: [u16; 128],
@@ -43,7 +44,7 @@ pub enum Search {
     Group,
 }
 
-// The group's bits stand beside the answer: 16 zeros beside a route.
+// The group's bits stand beside the answer, as document 01 has it: 16 zeros beside a route, which `RouteOrGroup` promises.
 #[derive(Clone, Copy)]
 pub struct Found {
     pub answer: Search,
@@ -124,7 +125,7 @@ fn seed(buses: usize, roles: [u8; 128], mut marks: [u16; 128], mut queue: [u8; 1
     }
 }
 
-// Eight marks as the bits of a byte, the first of them the highest.
+// Eight marks as the bits of a byte, the first of them the highest: from `at` on, as `Byte` names them.
 fn byte(marks: [u16; 128], at: usize) -> u8
     requires { at + 8 ≤ 128 }
     ensures { Byte marks at result }

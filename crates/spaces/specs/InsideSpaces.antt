@@ -1,8 +1,8 @@
 -- What the commands that only set a space leave of all spaces: all spoilt, the book set, nothing beside one place set.
-use Rattle.std.specs.Prelude.{◌≡◌, cond, List, ℕ, ◌+◌, pos, length, replicate, Option, Some, None}
+use Rattle.std.specs.Prelude.{◌≡◌, cond, List, ℕ, ◌+◌, length, Option, Some, None}
 use Rattle.rows.specs.Row.{nth, headed, two_at}
 use Rattle.spaces.specs.declared.Spaces.{Spaces}
-use Rattle.spaces.specs.InsideStream.{book_reach}
+use Rattle.spaces.specs.InsideStream.{book_reach, Spoilt}
 
 -- And all that these letters never set.
 pub record Beside (s s' : Spaces) : Type 0 where
@@ -11,15 +11,10 @@ pub record Beside (s s' : Spaces) : Type 0 where
   pub bytes_is : s'.bytes ≡ s.bytes
   pub shelf_is : s'.shelf ≡ s.shelf
 
--- `P`: every flow, injection and branch number is 7777777, every table, book and shelf byte 170, and the book has none.
-pub record Spoilt (s s' : Spaces) : Type 0 where
-  pub book_is : s'.book ≡ replicate 2100 170
+-- `P`: every space is spoilt, and the book has no bytes.
+pub record AllSpoilt (s s' : Spaces) : Type 0 where
+  pub spoilt : Spoilt s'.book s'.flow s'.table s'.injections s'.branches s'.shelf
   pub bytes_is : s'.bytes ≡ 0
-  pub flow_is : s'.flow ≡ replicate 256 (pos 7777777)
-  pub table_is : s'.table ≡ replicate 13312 170
-  pub injections_is : s'.injections ≡ replicate 128 (pos 7777777)
-  pub branches_is : s'.branches ≡ replicate 1280 7777777
-  pub shelf_is : s'.shelf ≡ replicate 2100 170
   pub percent_is : s'.percent ≡ s.percent
 
 -- `B`: the first bytes of the book space are those of the command, and the book has so many; a bad command takes no byte and changes nothing.

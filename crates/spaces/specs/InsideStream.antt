@@ -1,5 +1,5 @@
 -- Numbers of the stream, the high byte first, signed ones in two's complement; the bytes of a book in it, a percentage, and the place that a command sets.
-use Rattle.std.specs.Prelude.{◌≡◌, Bool, List, ℕ, ◌+◌, ◌-◌, ◌*◌, cond, ◌&&◌, leb, ltb, ℤ, pos, negsuc, length, set, Option, Some, None}
+use Rattle.std.specs.Prelude.{◌≡◌, Bool, List, ℕ, ◌+◌, ◌-◌, ◌*◌, cond, ◌&&◌, leb, ltb, ℤ, pos, negsuc, length, set, replicate, Option, Some, None}
 use Rattle.rows.specs.Row.{nth, headed, two_at}
 
 abbrev pub four_at : List ℕ → ℕ → ℕ
@@ -46,3 +46,12 @@ pub data PlacesSet (letter : ℕ) (rest : List ℕ) (flow : List ℤ) (table : L
   in_none : (letter ≡ 70 → ⊥) → (letter ≡ 84 → ⊥) → (letter ≡ 73 → ⊥) → (letter ≡ 78 → ⊥) → r ≡ None
       → flow' ≡ flow → table' ≡ table → injections' ≡ injections → branches' ≡ branches
       → PlacesSet letter rest flow table injections branches flow' table' injections' branches' r
+
+-- `P`: every flow, injection and branch number is 7777777, every table, book and shelf byte 170.
+pub record Spoilt (book : List ℕ) (flow : List ℤ) (table : List ℕ) (injections : List ℤ) (branches shelf : List ℕ) : Type 0 where
+  pub book_is : book ≡ replicate 2100 170
+  pub flow_is : flow ≡ replicate 256 (pos 7777777)
+  pub table_is : table ≡ replicate 13312 170
+  pub injections_is : injections ≡ replicate 128 (pos 7777777)
+  pub branches_is : branches ≡ replicate 1280 7777777
+  pub shelf_is : shelf ≡ replicate 2100 170

@@ -3,7 +3,7 @@
 #![tactic(auto)]
 
 ghost use Rattle.std.specs.Prelude.{◌≡◌, ◌+◌, ◌<◌, ◌≤◌, length, set, IfSome, IfNone};
-ghost use Rattle.spaces.specs.InsideStream.{BookCopied, PercentSet, PlacesSet};
+ghost use Rattle.spaces.specs.InsideStream.{BookCopied, PercentSet, PlacesSet, Spoilt};
 
 mod numbers;
 mod stream;
@@ -13,7 +13,7 @@ use rows::two;
 pub use stream::four;
 
 // What the calls are lent: the percentage that stands, a packed book in the first bytes of its space, a flow, a table of records, the tables beside a
-// book, and the shelf that a moved book is put on.
+// book, and the shelf that a moved book is put on. Each is a row that a call is lent whole or in part.
 #[derive(Drop)]
 pub struct Spaces {
     pub percent: u32,
@@ -28,7 +28,7 @@ pub struct Spaces {
 }
 
 impl Spaces {
-    ghost use Rattle.spaces.specs.InsideSpaces.{Spoilt, BookSet, Beside};
+    ghost use Rattle.spaces.specs.InsideSpaces.{AllSpoilt, BookSet, Beside};
 
     // No book yet, and the whole nameplate.
     pub fn new() -> Spaces
@@ -47,17 +47,19 @@ impl Spaces {
         }
     }
 
-    // `P`: numbers that no call leaves by itself, so that what it does not write is seen.
+    // `P`.
     pub fn spoil(&mut self)
-        ensures { Spoilt self.old self.new }
+        ensures { AllSpoilt self.old self.new }
     {
-        self.book = [170u8; 2100];
         self.bytes = 0;
-        self.flow = [7777777i32; 256];
-        self.table = [170u8; 13312];
-        self.injections = [7777777i32; 128];
-        self.branches = [7777777u32; 1280];
-        self.shelf = [170u8; 2100];
+        spoil(
+            &mut self.book,
+            &mut self.flow,
+            &mut self.table,
+            &mut self.injections,
+            &mut self.branches,
+            &mut self.shelf,
+        );
     }
 
     // `B`.
@@ -84,6 +86,25 @@ impl Spaces {
             &mut self.branches,
         )
     }
+}
+
+// Numbers that no call leaves by itself, so that what it does not write is seen.
+pub fn spoil(
+    book: &mut [u8; 2100],
+    flow: &mut [i32; 256],
+    table: &mut [u8; 13312],
+    injections: &mut [i32; 128],
+    branches: &mut [u32; 1280],
+    shelf: &mut [u8; 2100],
+)
+    ensures { Spoilt book.new flow.new table.new injections.new branches.new shelf.new }
+{
+    *book = [170u8; 2100];
+    *flow = [7777777i32; 256];
+    *table = [170u8; 13312];
+    *injections = [7777777i32; 128];
+    *branches = [7777777u32; 1280];
+    *shelf = [170u8; 2100];
 }
 
 // `Y`. Any byte is taken: the calls refuse what is out of range.
@@ -119,6 +140,7 @@ pub fn set_place(
     ensures places_set { PlacesSet letter rest.now flow.old table.old injections.old branches.old flow.new table.new injections.new branches.new result }
     ensures upper_bound { IfSome result (λ n. n ≤ length rest.now) }
 {
+    // Asked before the `match`: a command that is cut off sets nothing, whichever it is.
     let size = if letter == b'T' { 4 } else { 7 };
     if rest.len() < size {
         return None;

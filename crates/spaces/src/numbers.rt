@@ -10,6 +10,7 @@ pub fn number_at(rest: &[u8], at: usize, most: usize) -> Option<usize>
     ensures some { IfSome result (λ n. Asked rest.now at most n) }
     ensures none { IfNone result (good rest.now at most ≡ false) }
 {
+    // As `good` has it, the letter's place holds no number.
     if at == 0 || rest.len() - at < 2 {
         return None;
     }

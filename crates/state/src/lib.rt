@@ -22,7 +22,8 @@ use quantity::Kw;
 use reroute::Shortfall;
 use search::{Latent, Wires};
 
-// The limits in `live` are the normal ones, and those in `brief` what a loss is judged by; both are 0 for a branch out of service.
+// Rows of fixed length side by side, each handed on whole, as document 01 has them. The limits in `live` are the normal ones, and those in `brief` what a
+// loss is judged by; both are 0 for a branch out of service.
 #[derive(Clone, Copy)]
 pub struct Plan {
     pub wires: Wires,
@@ -223,7 +224,8 @@ pub fn put_verdict(
         record::write(rec, 1, 0, [0u8; 16], reroute);
         return;
     };
-    // If its loss would island, it is short by its whole flow. The number is the byte of the record, whose reader gives any.
+    // If its loss would island, it is short by its whole flow. The number is the byte that
+    // `record::write` takes.
     let mut number: u8 = 2;
     if short.excess == quantity::apart(live[k], latent.ahead[k]) {
         number = short_number(wires, served, live, k, short.group);
@@ -235,10 +237,7 @@ fn counted(judged: usize, more: bool) -> usize
     requires { judged < 256 }
     ensures { result ≡ judged + pick more 1 }
 {
-    if more {
-        return judged + 1;
-    }
-    judged
+    judged + usize::from(more)
 }
 
 // The records whose bit is listed are written anew; the answer is how many losses were judged for them.

@@ -9,6 +9,7 @@ ghost use Rattle.switch.specs.Inside.{With};
 use answer::{Answer, Refusal};
 
 // Refusals 21 and 1 to 8, then 9, then `already` where the branch has that status.
+// Status and refusal say twice which call asks: either alone would be turned into the other here.
 pub fn check(
     percent: u32,
     book: &[u8],

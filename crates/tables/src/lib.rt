@@ -1,6 +1,8 @@
 // Commands on the tables beside a book, and on books alone: it is read into the tables, written from them in either form, moved to a form, and
 // the injections come from meters. Each answers how many bytes of the stream it took, and `None` where it is bad. What it answers is written to a printer,
 // once its call is made: where a write fails the spaces are as the command leaves them, and it answers with that error.
+// `rest` begins with the command's letter, so it isn't empty; without it every place here would be one less than docs/TRIAL.md counts it. A book that is
+// written stands at the start of a space, with how many bytes it has beside it.
 #![tactic(auto)]
 
 ghost use Rattle.std.specs.Prelude.{◌≡◌, false, ℕ, ◌+◌, ◌*◌, ◌<◌, ◌≤◌, length, replicate, Some, None, IfOk, OnErr, IfSome, IfNone};

@@ -71,6 +71,7 @@ impl Shift {
 // Refusals 21, 1 to 8, 19, 20, 11 and 12; accepted, the injection of bus `up` rises by kw and that of bus `down` falls by it, kw is rerouted from
 // the one to the other over what the lent flow leaves of the normal limits, and the shortlist is written anew. No branch is taken out, so the
 // touched ones are those whose flow changed, whichever they are.
+// What is lent stays apart, as C hands it on.
 pub fn move_load(
     percent: u32,
     book: &mut [u8],

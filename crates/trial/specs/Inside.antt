@@ -5,7 +5,7 @@ use Rattle.layout.specs.declared.Form.{Form}
 use Rattle.layout.specs.declared.Form.TheVariants.{Old, New}
 use Rattle.spaces.specs.declared.Spaces.{Spaces}
 use Rattle.spaces.specs.InsideStream.{PercentSet, PlacesSet}
-use Rattle.spaces.specs.InsideSpaces.{Spoilt, BookSet, Beside}
+use Rattle.spaces.specs.InsideSpaces.{AllSpoilt, BookSet, Beside}
 use Rattle.tables.specs.Inside.{WriteRun, MoveRun}
 use Rattle.trial.specs.InsideCalls.{CallRun, lent_of}
 
@@ -26,7 +26,7 @@ places letter = eqb letter 70 || (eqb letter 84 || (eqb letter 73 || eqb letter 
 
 -- One command, on all spaces and at the percentage that stands, which `Y` alone changes: the letter says which.
 pub data CommandRun (rest : List ℕ) (s s' : Spaces) (r : Option ℕ) : Type 0 where
-  spoils : nth rest 0 ≡ 80 → r ≡ Some 1 → Spoilt s s' → CommandRun rest s s' r
+  spoils : nth rest 0 ≡ 80 → r ≡ Some 1 → AllSpoilt s s' → CommandRun rest s s' r
   sets_book : nth rest 0 ≡ 66 → BookSet rest s s' r → CommandRun rest s s' r
   writes : (f : Form) → nth rest 0 ≡ write_letter f → WriteRun f rest s.injections s.branches s.book s.bytes s'.book s'.bytes r
       → s'.flow ≡ s.flow → s'.table ≡ s.table → s'.injections ≡ s.injections → s'.branches ≡ s.branches → s'.shelf ≡ s.shelf

@@ -12,7 +12,8 @@ use spaces::{Spaces, four, number_at};
 use std::io;
 use tables::{run_meters, run_read};
 
-// `S`. It and the next three take the spaces that they lend as slices, since a part of an array in a struct can't be lent as `&mut` out of it.
+// `S`. It and the next three take the spaces that they lend as slices, since a part of an array in a struct can't be lent as `&mut` out of it; the
+// book comes with its length, since what is promised is of whole spaces.
 fn run_screen(
     rest: &[u8],
     percent: u32,

@@ -3,7 +3,6 @@ use mathlib.Core.Path.{◌≡◌, refl, sym, ◌∙◌}
 use Rattle.answer.specs.Answer.{Accepted}
 use Rattle.answer.proofs.Refusals.{stands, gave_up, handed_on}
 use Rattle.layout.specs.Check.{head_check, check_of}
-use Rattle.book.proofs.HeadRange.{head_range}
 use Rattle.book.proofs.check_with.Goals as goal
 
 pub returns-in_err-check_head : goal.returns-in_err-check_head

@@ -1,10 +1,8 @@
 -- `fill_branches` fills a table with the numbers of the branches, stretch by stretch.
 use native.Mathlib.Omega.{arith}
 use mathlib.Core.Path.{refl}
-use Prim.Native.Nat.{◌+◌, ◌-◌, ◌≤◌}
-use lib.ListN.{length, length-take, length-drop}
-use Rattle.layout.proofs.Forms.{row_room}
-use Rattle.book.proofs.Filling.{table_start, table_turn, table_end}
+use Prim.Native.Nat.{◌+◌, ◌-◌}
+use Rattle.book.proofs.Filling.{table_start, table_turn}
 use Rattle.book.proofs.fill_branches.Goals as goal
 
 pub loop-k-init : goal.loop-k-init

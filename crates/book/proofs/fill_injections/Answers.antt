@@ -3,7 +3,7 @@ use borrow.Author.Rules.{sfits_of}
 use mir.Syntax.{w32}
 use mir.Val.{SFits}
 use mir.Facts.{to_z-of_z}
-use Rattle.book.proofs.Filling.{fill_start, fill_more, fill_end}
+use Rattle.book.proofs.Filling.{fill_start, fill_more}
 use Rattle.book.proofs.fill_injections.Goals as goal
 
 pub loop-k-init : goal.loop-k-init

@@ -7,7 +7,7 @@ use lib.ListN.{length, take}
 use lib.Seq.{length-take-le}
 use Rattle.bits.specs.Field.{Bytes}
 use Rattle.layout.specs.Layout.{bytes_for, buses_in, branches_in}
-use Rattle.forms.proofs.Moving.{Moves, moves, small_head, length_by, move_refused, move_done}
+use Rattle.forms.proofs.Moving.{Moves, moves, small_head, length_by, move_refused}
 use Rattle.answer.proofs.Refusals.{gave_up, handed_on}
 use Rattle.forms.proofs.move_book.Goals as goal
 

@@ -1,7 +1,7 @@
 -- `move_branches` puts the fields of every branch in the form asked for.
 use mathlib.Core.Path.{ap}
 use Rattle.layout.specs.Form.{branch_values}
-use Rattle.pack.proofs.Packing.{packing_start, packing_more, packing_end}
+use Rattle.pack.proofs.Packing.{packing_start, packing_more}
 use Rattle.forms.proofs.move_branches.Goals as goal
 
 pub loop-k-init : goal.loop-k-init

@@ -1,7 +1,7 @@
 -- `move_buses` puts the fields of every bus.
 use mathlib.Core.Path.{ap}
 use Rattle.layout.specs.Inside.{bus_fields}
-use Rattle.pack.proofs.Packing.{packing_start, packing_more, packing_end}
+use Rattle.pack.proofs.Packing.{packing_start, packing_more}
 use Rattle.forms.proofs.move_buses.Goals as goal
 
 pub loop-k-init : goal.loop-k-init

@@ -1,5 +1,5 @@
 -- `ratings_differ` is true exactly where the ratings of some branch differ.
-use Rattle.forms.proofs.Scan.{alike_start, alike_more, alike_not, alike_end}
+use Rattle.forms.proofs.Scan.{alike_start, alike_more, alike_not}
 use Rattle.forms.proofs.ratings_differ.Goals as goal
 
 pub loop-k-init : goal.loop-k-init

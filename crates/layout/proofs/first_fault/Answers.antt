@@ -1,5 +1,5 @@
 -- `first_fault` gives the first fault of its items.
-use Rattle.layout.proofs.FirstFault.{scan_start, scan_more, scan_stop, scan_end}
+use Rattle.layout.proofs.FirstFault.{scan_start, scan_more, scan_stop}
 use Rattle.layout.proofs.first_fault.Goals as goal
 
 pub loop-k-init : goal.loop-k-init

@@ -4,7 +4,7 @@ use mathlib.Core.Path.{refl}
 use mir.Syntax.{w32}
 use mir.Val.{SFits}
 use mir.Facts.{to_z-of_z}
-use Rattle.layout.proofs.Balanced.{room_start, room_for, room_more, tally_start, tally_more, tally_end}
+use Rattle.layout.proofs.Balanced.{room_start, room_more, tally_start, tally_more}
 use Rattle.layout.proofs.is_balanced.Goals as goal
 
 pub loop-k-init : goal.loop-k-init

@@ -1,6 +1,5 @@
 -- `set_status` sets the status bit where the book's own form has it.
 use native.Mathlib.Omega.{arith}
-use mathlib.Core.Path.{refl, ◌∙◌}
 use Rattle.bits.proofs.ReadAsPut.{field_lt}
 use Rattle.layout.proofs.set_status.Goals as goal
 

@@ -1,6 +1,5 @@
 -- `live_limits` gives each branch in service its limit, and 0 to any other.
-use native.Mathlib.Omega.{arith}
-use Rattle.state.proofs.BranchByBranch.{living_none, living_set, living_skip, living_all}
+use Rattle.state.proofs.BranchByBranch.{living_none}
 use Rattle.state.proofs.live_limits.Goals as goal
 
 pub loop-k-init : goal.loop-k-init

@@ -1,8 +1,6 @@
 -- The loop over the branches: listed records are written, the rest are passed.
-use native.Mathlib.Omega.{arith}
 use mathlib.Core.Path.{sym, ◌∙◌}
-use lib.ListN.{length-take, length-drop}
-use Rattle.state.proofs.Rewriting.{going_none, going_kept, going_written, going_all}
+use Rattle.state.proofs.Rewriting.{going_none, going_kept, going_written}
 use Rattle.state.proofs.rewrite.Goals as goal
 use Rattle.state.proofs.rewrite.Goals.{then-is_set, else-is_set}
 

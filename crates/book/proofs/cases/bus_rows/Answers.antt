@@ -5,7 +5,7 @@ use mir.Syntax.{w32}
 use mir.Val.{SFits}
 use mir.Facts.{to_z-of_z}
 use Rattle.quantity.specs.Signed.{pos_part, neg_part}
-use Rattle.book.proofs.Filling.{fill_start, fill_more, fill_end}
+use Rattle.book.proofs.Filling.{fill_start, fill_more}
 use Rattle.book.proofs.cases.bus_rows.Goals as goal
 
 pub loop-k-init : goal.loop-k-init
