@@ -13,7 +13,8 @@ use rows::two;
 pub use stream::four;
 
 // What the calls are lent: the percentage that stands, a packed book in the first bytes of its space, a flow, a table of records, the tables beside a
-// book, and the shelf that a moved book is put on. Each is a row that a call is lent whole or in part.
+// book, and the shelf that a moved book is put on. Rows of fixed length, since there is no heap: a call is
+// lent one whole or in part.
 #[derive(Drop)]
 pub struct Spaces {
     pub percent: u32,

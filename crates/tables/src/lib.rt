@@ -2,7 +2,8 @@
 // the injections come from meters. Each answers how many bytes of the stream it took, and `None` where it is bad. What it answers is written to a printer,
 // once its call is made: where a write fails the spaces are as the command leaves them, and it answers with that error.
 // `rest` begins with the command's letter, so it isn't empty; without it every place here would be one less than docs/TRIAL.md counts it. A book that is
-// written stands at the start of a space, with how many bytes it has beside it.
+// written stands at the start of a space, with how many bytes it has beside it, since `WriteRun`
+// promises of the whole space.
 #![tactic(auto)]
 
 ghost use Rattle.std.specs.Prelude.{◌≡◌, false, ℕ, ◌+◌, ◌*◌, ◌<◌, ◌≤◌, length, replicate, Some, None, IfOk, OnErr, IfSome, IfNone};

@@ -13,7 +13,8 @@ use std::io;
 use tables::{run_meters, run_read};
 
 // `S`. It and the next three take the spaces that they lend as slices, since a part of an array in a struct can't be lent as `&mut` out of it; the
-// book comes with its length, since what is promised is of whole spaces.
+// book comes with its length, since what is promised is of whole spaces. `rest` begins
+// with the command's letter, so it isn't empty, as docs/TRIAL.md counts its places.
 fn run_screen(
     rest: &[u8],
     percent: u32,

@@ -47,7 +47,7 @@ fn ready<R: Read>(reader: &mut R, input: &mut [u8], at: usize, end: usize) -> io
     Ok(Window { at: 0, end: filled })
 }
 
-// One command, at the start of the rest of the stream.
+// One command, at the start of the rest of the stream, which its letter begins.
 fn run<R: Print>(rt: &R, rest: &[u8], s: &mut Spaces) -> io::Result<Option<usize>>
     requires { 0 < length rest.now }
     ensures command_run { IfOk result (λ r. CommandRun rest.now s.old s.new r) }
