@@ -15,7 +15,8 @@ use Rattle.layout.specs.Form.{fields}
 use Rattle.layout.specs.Layout.{buses_in, branches_in, form_in, book_of, table_of}
 use Rattle.layout.specs.Check.{check_of, check_numbers}
 use Rattle.answer.proofs.Said.{said_same}
-use Rattle.answer.proofs.Numbers.{Gives, gives_if, gives_then, gives_said, said_is, inside, gives_more}
+use Rattle.answer.proofs.Giving.{Gives}
+use Rattle.answer.proofs.Numbers.{gives_if, gives_then, gives_said, said_is, inside, gives_more}
 use Rattle.layout.proofs.Given.{check_gives}
 use Rattle.book.specs.Read.{read_check, read_numbers, BookRead}
 

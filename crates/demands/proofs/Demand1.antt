@@ -11,7 +11,8 @@ use Rattle.answer.specs.declared.Refusal.TheVariants.{FlowUnfit}
 use Rattle.answer.specs.Answer.{Answer, Accepted, Nowhere, Said, SaidBy, no_group, number_of, placed, refused}
 use Rattle.answer.proofs.Refusals.{leaves}
 use Rattle.answer.proofs.Said.{said_accepted, said_same}
-use Rattle.answer.proofs.Numbers.{Gives, gives_number, gives_place, inside, gives_more}
+use Rattle.answer.proofs.Giving.{Gives}
+use Rattle.answer.proofs.Numbers.{gives_number, gives_place, inside, gives_more}
 use Rattle.layout.specs.declared.Form.{Form}
 use Rattle.pack.specs.Write.{write_numbers, write_check, BookWritten}
 use Rattle.pack.proofs.Given.{write_gives, write_answer}

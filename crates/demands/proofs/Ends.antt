@@ -8,7 +8,8 @@ use lib.ListN.{length}
 use Rattle.rows.specs.Row.{member}
 use Rattle.answer.specs.Answer.{Answer, Accepted, SaidBy, number_of}
 use Rattle.answer.proofs.Said.{said_accepted, said_same}
-use Rattle.answer.proofs.Numbers.{Gives, gives_not, said_is}
+use Rattle.answer.proofs.Giving.{Gives}
+use Rattle.answer.proofs.Numbers.{gives_not, said_is}
 use Rattle.verdict.specs.Case.{Case, Posed, back, shifted, on, Fits}
 use Rattle.verdict.specs.Update.{Lent}
 use Rattle.verdict.proofs.Fitting.{posed_status}

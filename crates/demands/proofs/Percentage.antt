@@ -11,7 +11,8 @@ use Rattle.rows.specs.Row.{member}
 use Rattle.answer.specs.declared.Refusal.TheVariants.{PercentOutside, AlreadyOut, AlreadyIn}
 use Rattle.answer.specs.Answer.{Answer, Accepted, At, SaidBy, number, number_of, place_of, refused}
 use Rattle.answer.proofs.Refusals.{refusal_stands, at_not_nowhere}
-use Rattle.answer.proofs.Numbers.{Gives, inside, gives_not, gives_more}
+use Rattle.answer.proofs.Giving.{Gives, plain}
+use Rattle.answer.proofs.Numbers.{inside, gives_not, gives_more}
 use Rattle.quantity.specs.Rating.{percent_out}
 use Rattle.quantity.proofs.Limits.{limit_full, limit_by_percent}
 use Rattle.layout.specs.Book.{Book, branch}
@@ -54,7 +55,7 @@ module _ (percent : ℕ) (bs : List ℕ) (flows bytes : ℕ) where
   }
 
   -- n is what a branch switched already is refused with.
-  branch_guarded : (b v : ℕ) (n : Refusal) → member (number n) (past_percent (number n)) ≡ true → member 21 (past_percent (number n)) ≡ false
+  branch_guarded : (b v : ℕ) (n : Refusal) → plain n (past_percent (number n)) ≡ true → member 21 (past_percent (number n)) ≡ false
       → Guarded percent (branch_check percent bs flows bytes b v n)
   unfolding member inside
   branch_guarded b v n p m = record {

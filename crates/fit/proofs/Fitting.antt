@@ -54,7 +54,7 @@ module _ (W : Wires) (flow : List ℤ) (live gain load : List ℕ) where
     from_balance : Balanced (network W (nth live) (nth gain) (nth load)) (carried (nth live) x.ahead) (λ i. 0) (λ i. 0) → (i : ℕ) → i < W.buses → nth comes i ≡ nth goes i
     from_balance B i u = omega (arith, B.bus i u, cs.sums i (at_bus i u), gs.sums i (at_bus i u))
 
-    fit_in : ((i : ℕ) → i < W.buses → nth comes i ≡ nth goes i) → Fitted W flow live gain load (Some x)
+    pub fit_in : ((i : ℕ) → i < W.buses → nth comes i ≡ nth goes i) → Fitted W flow live gain load (Some x)
     fit_in e = record {
       left = λ lat q. subst (Left W.branches flow live) (same_Some x lat q) l;
       balances = λ lat q. balanced_alike (network W (nth live) (nth gain) (nth load)) (carried (nth live) x.ahead) (flow_of (on flow)) (λ i. 0) (λ i. 0) same

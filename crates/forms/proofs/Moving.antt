@@ -11,7 +11,8 @@ use Rattle.rows.proofs.Row.{some_same}
 use Rattle.answer.specs.declared.Refusal.TheVariants.{TooShort, RatingsLost}
 use Rattle.answer.specs.Answer.{Answer, Accepted, SaidBy, refused}
 use Rattle.answer.proofs.Refusals.{past, past_both, stands, leaves}
-use Rattle.answer.proofs.Numbers.{Gives, gives_if, gives_then, gives_said, said_is, inside, gives_more}
+use Rattle.answer.proofs.Giving.{Gives}
+use Rattle.answer.proofs.Numbers.{gives_if, gives_then, gives_said, said_is, inside, gives_more}
 use Rattle.bits.specs.Field.{Bytes}
 use Rattle.bits.specs.Fields.{puts, put_items}
 use Rattle.layout.specs.declared.Form.{Form}

@@ -8,7 +8,8 @@ use lib.ListN.{length}
 use Rattle.rows.specs.Row.{member}
 use Rattle.answer.specs.declared.Refusal.TheVariants.{WrongLength, CountsOutside, HeaderFill, BusWrong, BranchWrong, TailFill, NotBalanced}
 use Rattle.answer.specs.Answer.{Accepted}
-use Rattle.answer.proofs.Numbers.{Gives, gives_if, gives_at, gives_then}
+use Rattle.answer.proofs.Giving.{Gives}
+use Rattle.answer.proofs.Numbers.{gives_if, gives_at, gives_then}
 use Rattle.layout.specs.Fault.{first_fault}
 use Rattle.layout.specs.Layout.{bytes_for, buses_in, branches_in, factor_in, form_in, spare_in, injection_at, tail_in}
 use Rattle.layout.specs.Check.{outside, balances, bus_fault_at, branch_fault_at, head_check, body_check, check_of, check_numbers}

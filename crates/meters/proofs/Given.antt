@@ -9,7 +9,8 @@ use lib.ListN.{length}
 use Rattle.rows.specs.Row.{member, some}
 use Rattle.answer.specs.declared.Refusal.TheVariants.{ListsUneven, NoSuchSupply, AdvanceTooFar, SupplyOutside}
 use Rattle.answer.specs.Answer.{Answer, Accepted, Nowhere, SaidBy, place_of}
-use Rattle.answer.proofs.Numbers.{Gives, gives_if, gives_then, gives_nowhere, gives_said, said_is}
+use Rattle.answer.proofs.Giving.{Gives}
+use Rattle.answer.proofs.Numbers.{gives_if, gives_then, gives_nowhere, gives_said, said_is}
 use Rattle.meters.specs.Registers.{Registers, buses, supplied, shape, too_far, answer_to}
 use Rattle.meters.specs.Promise.{meter_numbers, Metered}
 

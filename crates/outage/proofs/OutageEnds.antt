@@ -8,7 +8,7 @@ use native.Mathlib.Omega.{arith}
 use native.Mathlib.Decide.{ℕ_discrete}
 use lib.IntN.{ℤ, pos, ◌-ℤ◌}
 use lib.ListN.{length, set, take, drop}
-use Rattle.std.specs.Prelude.{Option, None, Some}
+use Rattle.std.specs.Prelude.{None, Some}
 use Rattle.rows.specs.Row.{nth, member, headed}
 use Rattle.rows.proofs.Row.{headed_rest, length_headed}
 use Rattle.rows.specs.Bit.{has}
@@ -29,7 +29,7 @@ use Rattle.verdict.specs.Record.{record_at}
 use Rattle.verdict.proofs.Normal.{normal, fits_normal}
 use Rattle.state.specs.Case.{case_in}
 use Rattle.state.specs.Call.{lent, refuses, unfit, overloads, accepts}
-use Rattle.state.specs.Inside.{Held, State, Surveyed, Surveys, Raisable, Raised, Fillable, Poised, Listing, Rewritten}
+use Rattle.state.specs.Inside.{Held, State, Surveyed, Raisable, Raised, Fillable, Poised, Listing, Rewritten}
 use Rattle.state.specs.declared.Survey.{Survey}
 use Rattle.state.proofs.Surveying.{branch_there, sizes}
 use Rattle.state.proofs.Status.{restates}
@@ -68,7 +68,7 @@ module _ (percent : ℕ) (bs : List ℕ) (flow : List ℤ) (table : List ℕ) (b
     pub may : Takeable percent bs (length flow) (length table) b
     may = takeable bs (length flow) (length table) b ok
 
-    pub ends_unfit : {o : Option Survey} {t : Taken} → Surveys percent bs flow o → o ≡ None → t.answer ≡ refused FlowUnfit → t.judged ≡ 0
+    pub ends_unfit : {q : Survey} {t : Taken} → Surveyed percent bs flow q → q.latent ≡ None → t.answer ≡ refused FlowUnfit → t.judged ≡ 0
         → TakeCounted percent b (lent bs flow table) (lent bs flow table) t
     ends_unfit p e a z = record {
       ends = unfit ok (p.unfit e) (rw a (said_refused FlowUnfit (λ z. omega arith))) refl;
@@ -76,7 +76,7 @@ module _ (percent : ℕ) (bs : List ℕ) (flow : List ℤ) (table : List ℕ) (b
       none = λ _. z;
     }
 
-    module _ (q : Survey) (p : Surveyed percent bs flow q) where
+    module _ (q : Survey) (p : Surveyed percent bs flow q) (lat : Latent) (e : q.latent ≡ Some lat) where
       there : b < C.branches
       there = branch_there p may.there
 
@@ -93,23 +93,23 @@ module _ (percent : ℕ) (bs : List ℕ) (flow : List ℤ) (table : List ℕ) (b
       pub stretch_here : 52 * b + 52 ≤ length table
       stretch_here = omega (arith, table_room, touched_here.1)
 
-      state : State (normal C) (on flow) q.wires q.served q.live q.latent
-      state = p.state
+      state : State (normal C) (on flow) q.wires q.served q.live lat
+      state = p.fitting lat e
 
       lent_fits : Fits C C.limit (on flow)
       lent_fits = (fits_normal C C.limit (on flow)).1 state.fits
 
-      pub losable_here : Losable q.wires q.live q.latent b
-      losable_here = losable (normal C) (on flow) q.wires q.served q.live q.latent state b (sizes p may.there).2
+      pub losable_here : Losable q.wires q.live lat b
+      losable_here = losable (normal C) (on flow) q.wires q.served q.live lat state b (sizes p may.there).2
 
-      module _ (named : List ℕ) (y : Judgement) (z : Replaced q.wires q.live q.latent named b y) where
+      module _ (named : List ℕ) (y : Judgement) (z : Replaced q.wires q.live lat named b y) where
         pub ends_short : {t : Taken} (x : Shortfall) → y.short ≡ Some x
             → (t.answer ≡ overloaded x.excess x.group) × (t.judged ≡ 0) → TakeCounted percent b (lent bs flow table) (lent bs flow table) t
         ends_short x v a = record {
           ends = overloads ok lent_fits
               (rw a.0
               (overload_normal (out C b) _
-              (leaving.overload_out (normal C) refl flow q.wires q.served q.live q.latent state b there named y z x v))) refl;
+              (leaving.overload_out (normal C) refl flow q.wires q.served q.live lat state b there named y z x v))) refl;
           judges = λ q. absurd (omega (arith, ap number_of (sym a.0 ∙ q)));
           none = λ _. a.1;
         }
@@ -124,7 +124,7 @@ module _ (percent : ℕ) (bs : List ℕ) (flow : List ℤ) (table : List ℕ) (b
 
           pub fillable_here : Fillable q.wires.branches live y.latent.ahead (length flow)
           fillable_here = rw live-left.row_is
-              (leaving.fillable_out (normal C) refl flow q.wires q.served q.live q.latent state b there named y z ls ll (length flow)
+              (leaving.fillable_out (normal C) refl flow q.wires q.served q.live lat state b there named y z ls ll (length flow)
               (omega (arith, may.passes.flow_room, p.branches_are)))
 
           module _ (v : y.short ≡ None) (flow' : List ℤ)
@@ -134,7 +134,7 @@ module _ (percent : ℕ) (bs : List ℕ) (flow : List ℤ) (table : List ℕ) (b
 
             state_here : State (normal (out C b)) (on flow') q.wires (set q.served b false) (set q.live b 0) y.latent
             state_here =
-                leaving.state_out (normal C) refl flow q.wires q.served q.live q.latent state b there named y z ls ll flow' flow_is v
+                leaving.state_out (normal C) refl flow q.wires q.served q.live lat state b there named y z ls ll flow' flow_is v
 
             state_left : State (normal (out C b)) (on flow') q.wires served live y.latent
             state_left = rw (served-left.row_is, live-left.row_is) state_here
@@ -154,7 +154,7 @@ module _ (percent : ℕ) (bs : List ℕ) (flow : List ℤ) (table : List ℕ) (b
             pub poised_here : {left : Latent} → Raised q.wires.branches live brief y.latent left → Poised q.wires served brief left
             poised_here up = record { case = out C b; flow = on flow'; state = state_raised up }
 
-            module _ (touched : List ℕ) (m : Marked q.wires.branches q.latent.ahead y.latent.ahead b touched) where
+            module _ (touched : List ℕ) (m : Marked q.wires.branches lat.ahead y.latent.ahead b touched) where
               marks : (j : ℕ) → j < C.branches → Touched (on flow) (on flow') b j → has touched j ≡ true
               marks j u t = go t (ℕ_discrete j b)
                 where
@@ -165,7 +165,7 @@ module _ (percent : ℕ) (bs : List ℕ) (flow : List ℤ) (table : List ℕ) (b
                       m.differing j (omega (arith, p.held.branches_are))
                       (λ i. f (sym
                       (leaving.same_flow (normal C) refl flow q.wires q.served q.live
-                      q.latent state b there named y z ls ll flow' flow_is j u n i)))
+                      lat state b there named y z ls ll flow' flow_is j u n i)))
 
               only : (j : ℕ) → has touched j ≡ true → (j < C.branches) × Touched (on flow) (on flow') b j
               only j i = elim (m.only j i) [
@@ -174,7 +174,7 @@ module _ (percent : ℕ) (bs : List ℕ) (flow : List ℤ) (table : List ℕ) (b
                   omega (arith, f.below, p.held.branches_are),
                   changed (λ g. f.changed
                       (leaving.same_ahead (normal C) refl flow q.wires q.served q.live
-                      q.latent state b there named y z ls ll flow' flow_is j
+                      lat state b there named y z ls ll flow' flow_is j
                       (omega (arith, f.below, p.held.branches_are)) f.other g)),
                 )
               ]
@@ -203,9 +203,9 @@ module _ (percent : ℕ) (bs : List ℕ) (flow : List ℤ) (table : List ℕ) (b
                           (state_raised up).fits redone.table_is (ap length flow_is ∙ length_headed q.wires.branches f flow n)
                           (λ k u. rw flow_is (headed_rest q.wires.branches f flow k (pos 0) (omega (arith, p.held.branches_are))));
                       idle = leaving.idle_out (normal C) refl flow q.wires q.served q.live
-                          q.latent state b there named y z ls ll flow' flow_is;
+                          lat state b there named y z ls ll flow' flow_is;
                       confined = λ h F. leaving.confined_out (normal C) refl flow q.wires q.served q.live
-                          q.latent state b there named y z ls ll flow' flow_is (record_at table b) named-is
+                          lat state b there named y z ls ll flow' flow_is (record_at table b) named-is
                           h ((fits_normal (out C b) C.limit h).0 F);
                     });
                   }

@@ -45,7 +45,6 @@ fn lose(
         0,
         Refusal::AlreadyOut,
     )?;
-    let lent = state::survey_lent(percent, book, flow).ok_or(Refusal::FlowUnfit)?;
     let Survey {
         wires,
         served,
@@ -53,7 +52,8 @@ fn lose(
         brief,
         latent,
         ..
-    } = lent;
+    } = state::survey_lent(percent, book, flow);
+    let latent = latent.ok_or(Refusal::FlowUnfit)?;
     let named = record::reroute_of(record::stretch(table, branch));
     let judged = replace::replace(wires, live, latent, named, branch);
     if let Some(lack) = judged.short {

@@ -9,7 +9,8 @@ use lib.ListN.{length}
 use Rattle.rows.specs.Row.{member}
 use Rattle.answer.specs.declared.Refusal.TheVariants.{CountsOutside, BusWrong, BranchWrong, NotBalanced, TooShort}
 use Rattle.answer.specs.Answer.{Answer, Accepted, SaidBy}
-use Rattle.answer.proofs.Numbers.{Gives, gives_if, gives_at, gives_said, said_is}
+use Rattle.answer.proofs.Giving.{Gives}
+use Rattle.answer.proofs.Numbers.{gives_if, gives_at, gives_said, said_is}
 use Rattle.layout.specs.declared.Form.{Form}
 use Rattle.layout.specs.Fault.{first_fault}
 use Rattle.layout.specs.Form.{fields}

@@ -39,7 +39,7 @@ module _ (form : Form) (n m factor : ℕ) (inj : List ℤ) (bra : List ℕ) (roo
   abbrev check : Answer
   check = write_check form n m factor inj bra room
 
-  write_good_lem : outside n m factor ≡ false → n ≤ length inj → fields form * m ≤ length bra → first_fault (entry_fault inj) n ≡ Nowhere
+  pub write_good_lem : outside n m factor ≡ false → n ≤ length inj → fields form * m ≤ length bra → first_fault (entry_fault inj) n ≡ Nowhere
       → first_fault (row_fault form n bra) m ≡ Nowhere → balances n (entry inj) ≡ true → bytes_for form n m ≤ room → check ≡ Accepted
   unfolding write_check
   write_good_lem o u v e f b l = rw (o, le-ltb (length inj) n u, le-ltb (length bra) (fields form * m) v, e, f, b, le-ltb room (bytes_for form n m) l) refl

@@ -32,10 +32,10 @@ limit_by_kva {kva} {kva2} factor percent h =
     let m : kva * factor * percent ≤ kva2 * factor * percent = mul-le-mul (mul-le-mul h (omega arith)) (omega arith) in omega arith
 
 -- No product on the way is above that of the full power factor at 100, so that kW never come to more than the kVA.
-times_factor : (kva : ℕ) {factor : ℕ} → factor ≤ 1000 → kva * factor ≤ kva * 1000
+pub times_factor : (kva : ℕ) {factor : ℕ} → factor ≤ 1000 → kva * factor ≤ kva * 1000
 times_factor kva f = mul-le-mul_left kva f
 
-times_percent : (kva : ℕ) {factor percent : ℕ} → factor ≤ 1000 → percent ≤ 100 → kva * factor * percent ≤ kva * 100000
+pub times_percent : (kva : ℕ) {factor percent : ℕ} → factor ≤ 1000 → percent ≤ 100 → kva * factor * percent ≤ kva * 100000
 times_percent kva {factor} {percent} f p =
     let n : kva * factor * percent ≤ kva * factor * 100 = mul-le-mul_left (kva * factor) p in omega (arith, times_factor kva f)
 

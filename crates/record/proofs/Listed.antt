@@ -98,7 +98,7 @@ module _ (rec touched : List ℕ) where
   unfolding listed
   missed v h = rw (eq-eqb (verdict_in rec) 1 v, none_to h 32 (omega arith)) refl
 
-  met : {i : ℕ} → verdict_in rec ≡ 1 → i < 32 → nth rec (20 + i) < 256 → nth touched i < 256 → (bit_and (nth rec (20 + i)) (nth touched i) ≡ 0 → ⊥) → true ≡ listed rec touched
+  pub met : {i : ℕ} → verdict_in rec ≡ 1 → i < 32 → nth rec (20 + i) < 256 → nth touched i < 256 → (bit_and (nth rec (20 + i)) (nth touched i) ≡ 0 → ⊥) → true ≡ listed rec touched
   unfolding listed
   met {i} v l hx hy n = rw (eq-eqb (verdict_in rec) 1 v) (go (some 256 hit) refl)
     where

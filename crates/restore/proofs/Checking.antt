@@ -6,7 +6,8 @@ use mathlib.Core.List.{List}
 use Prim.Native.Nat.{ℕ, ◌<◌}
 use Rattle.rows.specs.Row.{member}
 use Rattle.answer.specs.Answer.{Accepted}
-use Rattle.answer.proofs.Numbers.{Gives, inside, gives_more}
+use Rattle.answer.proofs.Giving.{Gives}
+use Rattle.answer.proofs.Numbers.{inside, gives_more}
 use Rattle.layout.specs.Layout.{branches_in}
 use Rattle.state.specs.Case.{case_in}
 use Rattle.state.specs.Call.{lent_check, lent_numbers}

@@ -6,7 +6,7 @@ use Prim.Native.Nat.{ℕ, ◌*◌, ◌≤◌, ◌<◌}
 use native.Mathlib.Omega.{arith}
 use lib.IntN.{ℤ}
 use lib.ListN.{length}
-use Rattle.std.specs.Prelude.{Option, None}
+use Rattle.std.specs.Prelude.{None, Some}
 use Rattle.rows.specs.Row.{member}
 use Rattle.answer.specs.declared.Refusal.TheVariants.{FlowUnfit}
 use Rattle.answer.specs.Answer.{Answer, Accepted, refused}
@@ -19,7 +19,7 @@ use Rattle.search.specs.declared.Latent.{Latent}
 use Rattle.verdict.specs.Case.{Case, back, on}
 use Rattle.state.specs.Case.{case_in}
 use Rattle.state.specs.Call.{lent, refuses, unfit, accepts}
-use Rattle.state.specs.Inside.{State, Surveyed, Surveys, Raisable, Raised, Poised, Listing, Rewritten}
+use Rattle.state.specs.Inside.{State, Surveyed, Raisable, Raised, Poised, Listing, Rewritten}
 use Rattle.state.specs.declared.Survey.{Survey}
 use Rattle.state.proofs.Raising.{raisable, raised_state}
 use Rattle.state.proofs.Rewriting.{renewed}
@@ -50,11 +50,11 @@ module _ (percent : ℕ) (bs : List ℕ) (flow : List ℤ) (table : List ℕ) (b
     pub may : Returnable percent bs (length flow) (length table) b
     may = returnable bs (length flow) (length table) b ok
 
-    pub ends_unfit : {o : Option Survey} {r : Answer} → Surveys percent bs flow o → o ≡ None → r ≡ refused FlowUnfit
+    pub ends_unfit : {q : Survey} {r : Answer} → Surveyed percent bs flow q → q.latent ≡ None → r ≡ refused FlowUnfit
         → BackEnds percent b (lent bs flow table) (lent bs flow table) r
     ends_unfit p e a = unfit ok (p.unfit e) (rw a (said_refused FlowUnfit (λ z. omega arith))) refl
 
-    module _ (q : Survey) (p : Surveyed percent bs flow q) where
+    module _ (q : Survey) (p : Surveyed percent bs flow q) (lat : Latent) (e : q.latent ≡ Some lat) where
       there : b < C.branches
       there = branch_there p may.there
 
@@ -65,16 +65,16 @@ module _ (percent : ℕ) (bs : List ℕ) (flow : List ℤ) (table : List ℕ) (b
       pub listed_here : (q.wires.branches ≤ 256) × (52 * q.wires.branches ≤ length table)
       listed_here = ((sizes p may.there).1, omega (arith, may.passes.table_room, p.branches_are))
 
-      pub raisable_here : Raisable q.wires.branches q.live q.brief q.latent
-      raisable_here = raisable C (on flow) q.wires q.served q.live q.brief q.latent p.state p.held
+      pub raisable_here : Raisable q.wires.branches q.live q.brief lat
+      raisable_here = raisable C (on flow) q.wires q.served q.live q.brief lat (p.fitting lat e) p.held
 
       module _ (up : Latent)
-          (raised : Raised q.wires.branches q.live q.brief q.latent up)
+          (raised : Raised q.wires.branches q.live q.brief lat up)
           {served : List Bool} {brief ahead back_row : List ℕ}
           (served_is : With q.served b true served) (brief-is : With q.brief b (kw_at q.loss b) brief)
           (ahead_is : With up.ahead b (kw_at q.loss b) ahead) (back_is : With up.back b (kw_at q.loss b) back_row) where
         state : State C (on flow) q.wires q.served q.brief up
-        state = raised_state C (on flow) q.wires q.served q.live q.brief q.latent p.state p.held raised
+        state = raised_state C (on flow) q.wires q.served q.live q.brief lat (p.fitting lat e) p.held raised
 
         abbrev left : Latent
         left = record { ahead = ahead; back = back_row }

@@ -48,7 +48,6 @@ pub fn bring_back(
         1,
         Refusal::AlreadyIn,
     )?;
-    let lent = state::survey_lent(percent, book, flow).ok_or(Refusal::FlowUnfit)?;
     let Survey {
         wires,
         served,
@@ -56,7 +55,8 @@ pub fn bring_back(
         live,
         brief,
         latent,
-    } = lent;
+    } = state::survey_lent(percent, book, flow);
+    let latent = latent.ok_or(Refusal::FlowUnfit)?;
     let kw = loss[branch].0;
     let Latent { ahead, back } = state::raise(wires.branches, live, brief, latent);
     let served = switch::with(served, branch, true);

@@ -10,7 +10,8 @@ use Rattle.rows.proofs.Row.{or_true, either_false}
 use Rattle.answer.specs.declared.Refusal.TheVariants.{TooShort, PercentOutside}
 use Rattle.answer.specs.Answer.{Answer, Accepted, and_then, refuse_if, refused}
 use Rattle.answer.proofs.Refusals.{past, past_both, stands}
-use Rattle.answer.proofs.Numbers.{Gives, gives_if, gives_then, inside, gives_more}
+use Rattle.answer.proofs.Giving.{Gives, plain}
+use Rattle.answer.proofs.Numbers.{gives_if, gives_then, inside, gives_more}
 use Rattle.quantity.specs.Rating.{percent_out}
 use Rattle.quantity.proofs.Limits.{full_at_most}
 use Rattle.layout.specs.Layout.{branches_in, book_of}
@@ -77,7 +78,7 @@ module _ {percent : ℕ} (bs : List ℕ) (flows bytes : ℕ) where
 -- ---- Which numbers it gives.
 module _ (percent : ℕ) (bs : List ℕ) (flows bytes : ℕ) where
   -- Past the percentage.
-  rest_gives : (ns : List ℕ) → inside check_numbers ns ≡ true → member 8 ns ≡ true
+  rest_gives : (ns : List ℕ) → inside check_numbers ns ≡ true → plain TooShort ns ≡ true
       → Gives ns (and_then (check_of bs) (refuse_if (ltb flows (branches_in bs) || ltb bytes (52 * branches_in bs)) TooShort Accepted))
   rest_gives ns i h =
       gives_then ns (check_of bs) _ (gives_more check_numbers ns (check_of bs) i (check_gives bs))

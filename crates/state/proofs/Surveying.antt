@@ -1,5 +1,5 @@
 -- A lent book and flow, surveyed: the rows are those of its case, and the test of the flow is whether it fits.
-use mathlib.Core.Path.{◌≡◌, refl, subst, ◌∙◌}
+use mathlib.Core.Path.{◌≡◌, refl, ◌∙◌}
 use mathlib.Core.List.{List}
 use Prim.Native.Nat.{ℕ, ◌≤◌, ◌<◌}
 use native.Mathlib.Omega.{arith}
@@ -13,22 +13,19 @@ use Rattle.layout.proofs.WellFormed.{accepted_well}
 use Rattle.book.specs.Inside.{RowsRead}
 use Rattle.book.specs.declared.cases.CaseRows.{CaseRows}
 use Rattle.fit.specs.Inside.{Lendable, Fitted}
-use Rattle.std.specs.Prelude.{Option, None, Some}
+use Rattle.std.specs.Prelude.{Option}
 use Rattle.search.specs.declared.Latent.{Latent}
 use Rattle.quantity.specs.Inside.{kw_at}
 use Rattle.quantity.proofs.Limits.{full_at_most}
 use Rattle.verdict.proofs.Normal.{normal, fits_normal}
 use Rattle.state.specs.Case.{case_of, case_in}
-use Rattle.state.specs.Inside.{Held, Plannable, Planned, Surveyable, Surveyed, Surveys}
+use Rattle.state.specs.Inside.{Held, Plannable, Planned, Surveyable, Surveyed}
 use Rattle.state.specs.declared.Plan.{Plan}
 use Rattle.state.specs.declared.Survey.{Survey}
 use Rattle.state.proofs.Checked.{Passed}
 use Rattle.state.proofs.Opening.{plannable, held, held_live, gain_is, load_is, small_injections}
 use Rattle.state.proofs.Lending as lending
 use Rattle.state.proofs.Status.{branches_of}
-
-the_survey : {x y : Survey} → Some x ≡ Some y → x ≡ y
-the_survey e = cc
 
 -- What passes the checks of every call can be surveyed.
 pub surveyable : {percent : ℕ} {bs : List ℕ} {flows bytes : ℕ} → Passed percent bs flows bytes → Surveyable percent bs flows
@@ -76,24 +73,16 @@ module _ {percent : ℕ} (bs : List ℕ) (flow : List ℤ) (ok : Surveyable perc
         (omega (arith, ok.flow_room, count_here))
         (small_injections percent (book_of bs) well q.gain q.load gains loads)
 
-    pub surveyed : {x : Option Latent} → Fitted q.wires flow q.live q.gain q.load x → (lat : Latent) → x ≡ Some lat
-        → Surveys percent bs flow
-        (Some (record { wires = q.wires; served = q.served; loss = r.loss; live = q.live; brief = q.brief; latent = lat }))
-    surveyed {x} d lat e = record {
-      fitting = λ s i. subst (Surveyed percent bs flow) (the_survey i) (record {
-        held = held_here;
-        branches_are = count_here;
-        loss_is = losses_here;
-        state = lending.fit_state (normal (case_in percent bs)) refl q.wires q.served q.live q.gain
-            q.load live_here gains loads flow x d lat e;
-      });
-      unfit = λ i. cc;
-    }
-
-    pub unsurveyed : {x : Option Latent} → Fitted q.wires flow q.live q.gain q.load x → x ≡ None → Surveys percent bs flow None
-    unsurveyed {x} d e = record {
-      fitting = λ s i. cc;
-      unfit = λ _ F. lending.fit_not (normal (case_in percent bs)) refl q.wires q.served q.live q.gain
+    pub surveyed : (x : Option Latent) → Fitted q.wires flow q.live q.gain q.load x
+        → Surveyed percent bs flow
+        (record { wires = q.wires; served = q.served; loss = r.loss; live = q.live; brief = q.brief; latent = x })
+    surveyed x d = record {
+      held = held_here;
+      branches_are = count_here;
+      loss_is = losses_here;
+      fitting = λ lat e. lending.fit_state (normal (case_in percent bs)) refl q.wires q.served q.live q.gain
+          q.load live_here gains loads flow x d lat e;
+      unfit = λ e F. lending.fit_not (normal (case_in percent bs)) refl q.wires q.served q.live q.gain
           q.load live_here gains loads flow x d e
           ((fits_normal (case_in percent bs) _ _).0 F);
     }

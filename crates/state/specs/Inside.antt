@@ -1,5 +1,5 @@
 -- The rows that a call works on, as rows of a case and a flow of it; and records written from them.
-use Rattle.std.specs.Prelude.{◌≡◌, Bool, true, false, ◌&&◌, List, ℕ, ◌+◌, ◌*◌, ◌^◌, ◌<◌, ◌≤◌, ℤ, length, get_or, Option, None, Some}
+use Rattle.std.specs.Prelude.{◌≡◌, Bool, true, false, ◌&&◌, List, ℕ, ◌+◌, ◌*◌, ◌^◌, ◌<◌, ◌≤◌, ℤ, length, get_or, None, Some}
 use Rattle.rows.specs.Row.{nth}
 use Rattle.rows.specs.Bit.{has}
 use Rattle.rows.specs.Sum.{pick, size}
@@ -66,23 +66,19 @@ pub record Planned (r : CaseRows) (q : Plan) : Type 0 where
   pub same_gain : q.gain ≡ r.gain
   pub same_load : q.load ≡ r.load
 
--- `survey_lent`: a percentage, an accepted book and a flow long enough for it.
+-- `survey_lent`: a percentage, an accepted book and a flow long enough for it; the rows of the case, and, exactly where the flow fits, what it leaves of
+-- the normal limits.
 pub record Surveyable (percent : ℕ) (bs : List ℕ) (flows : ℕ) : Type 0 where
   pub full_at_most : percent ≤ 100
   pub book : check_of bs ≡ Accepted
   pub flow_room : branches_in bs ≤ flows
 
--- The rows of the case, with what a flow that fits leaves of the normal limits.
 pub record Surveyed (percent : ℕ) (bs : List ℕ) (flow : List ℤ) (r : Survey) : Type 0 where
   pub held : Held (case_in percent bs) r.wires r.served r.brief
   pub branches_are : r.wires.branches ≡ branches_in bs
   pub loss_is : (k : ℕ) → kw_at r.loss k ≡ (case_in percent bs).loss_limit k
-  pub state : State (normal (case_in percent bs)) (on flow) r.wires r.served r.live r.latent
-
--- There is a survey exactly where the flow fits.
-pub record Surveys (percent : ℕ) (bs : List ℕ) (flow : List ℤ) (r : Option Survey) : Type 0 where
-  pub fitting : (q : Survey) → r ≡ Some q → Surveyed percent bs flow q
-  pub unfit : r ≡ None → Fits (case_in percent bs) (case_in percent bs).limit (on flow) → ⊥
+  pub fitting : (lat : Latent) → r.latent ≡ Some lat → State (normal (case_in percent bs)) (on flow) r.wires r.served r.live lat
+  pub unfit : r.latent ≡ None → Fits (case_in percent bs) (case_in percent bs).limit (on flow) → ⊥
 
 -- `raised_row`: a row of what is latent under the limits in `live`, and the same row under those in `brief`, which are higher.
 pub record RowRaisable (n : ℕ) (live brief row : List ℕ) : Type 0 where

@@ -12,7 +12,7 @@ ghost use Rattle.verdict.specs.Excess.{Short};
 ghost use Rattle.verdict.specs.Island.{ShortNumber};
 ghost use Rattle.verdict.specs.Record.{TrueRecord};
 ghost use Rattle.state.specs.Call.{lent_check};
-ghost use Rattle.state.specs.Inside.{State, Poised, Changed, Live, Plannable, Planned, Surveyable, Surveys, RowRaisable, RowRaised, Raisable, Raised};
+ghost use Rattle.state.specs.Inside.{State, Poised, Changed, Live, Plannable, Planned, Surveyable, Surveyed, RowRaisable, RowRaised, Raisable, Raised};
 ghost use Rattle.search.specs.declared.Latent.{Latent};
 ghost use Rattle.state.specs.Inside.{Fillable, Severable, Rewritten};
 
@@ -96,7 +96,7 @@ pub fn prepare(rows: CaseRows) -> Plan
     }
 }
 
-// A lent book and a flow that fits it: the rows of the book, and the latent capacities that the flow leaves of the normal limits.
+// A lent book and flow: the rows of the book, and the latent capacities that the flow leaves of the normal limits, if it fits.
 #[derive(Clone, Copy)]
 pub struct Survey {
     pub wires: Wires,
@@ -104,12 +104,12 @@ pub struct Survey {
     pub loss: [Kw; 256],
     pub live: [u32; 256],
     pub brief: [u32; 256],
-    pub latent: Latent,
+    pub latent: Option<Latent>,
 }
 
-pub fn survey_lent(percent: u32, book: &[u8], flow: &[i32]) -> Option<Survey>
+pub fn survey_lent(percent: u32, book: &[u8], flow: &[i32]) -> Survey
     requires { Surveyable percent book.now (length flow.now) }
-    ensures { Surveys percent book.now flow.now result }
+    ensures { Surveyed percent book.now flow.now result }
 {
     let rows = book::rows_of(percent, book);
     let loss = rows.loss;
@@ -121,15 +121,15 @@ pub fn survey_lent(percent: u32, book: &[u8], flow: &[i32]) -> Option<Survey>
         gain,
         load,
     } = prepare(rows);
-    let latent = fit::test(flow, wires, live, gain, load)?;
-    Some(Survey {
+    let latent = fit::test(flow, wires, live, gain, load);
+    Survey {
         wires,
         served,
         loss,
         live,
         brief,
         latent,
-    })
+    }
 }
 
 fn raised_row(branches: usize, live: [u32; 256], brief: [u32; 256], row: [u32; 256]) -> [u32; 256]

@@ -11,7 +11,8 @@ use Rattle.rows.specs.Row.{member}
 use Rattle.answer.specs.declared.Refusal.{Refusal}
 use Rattle.answer.specs.Answer.{Answer, Accepted, number, refused}
 use Rattle.answer.proofs.Refusals.{past, past_both, stands}
-use Rattle.answer.proofs.Numbers.{Gives, gives_if, gives_then}
+use Rattle.answer.proofs.Giving.{Gives, plain}
+use Rattle.answer.proofs.Numbers.{gives_if, gives_then}
 use Rattle.layout.specs.declared.Form.{Form}
 use Rattle.layout.specs.declared.Branch.{Branch}
 use Rattle.layout.specs.Book.{branch}
@@ -44,7 +45,7 @@ module _ {percent : ℕ} (bs : List ℕ) (flows bytes b v : ℕ) (n : Refusal) w
 
 -- Which numbers it gives, and each way in which it ends.
 module _ (percent : ℕ) (bs : List ℕ) (flows bytes b v : ℕ) (n : Refusal) where
-  pub branch_gives : (ns : List ℕ) → Gives ns (lent_check percent bs flows bytes) → member 9 ns ≡ true → member (number n) ns ≡ true
+  pub branch_gives : (ns : List ℕ) → Gives ns (lent_check percent bs flows bytes) → plain NoSuchBranch ns ≡ true → plain n ns ≡ true
       → Gives ns (branch_check percent bs flows bytes b v n)
   unfolding branch_check
   branch_gives ns g j m =

@@ -10,7 +10,8 @@ use Rattle.rows.proofs.Row.{or_true, either_false}
 use Rattle.answer.specs.declared.Refusal.TheVariants.{NoTwoBuses, InjectionOutside}
 use Rattle.answer.specs.Answer.{Answer, Accepted, refused}
 use Rattle.answer.proofs.Refusals.{past, past_both, stands}
-use Rattle.answer.proofs.Numbers.{Gives, gives_if, gives_then, inside, gives_more}
+use Rattle.answer.proofs.Giving.{Gives, plain}
+use Rattle.answer.proofs.Numbers.{gives_if, gives_then, inside, gives_more}
 use Rattle.layout.specs.Book.{size}
 use Rattle.layout.specs.Layout.{buses_in}
 use Rattle.state.specs.Call.{lent_check, lent_numbers}
@@ -60,7 +61,7 @@ module _ {percent : ℕ} (bs : List ℕ) (flows bytes up down kw : ℕ) where
 
 -- ---- Which numbers they give, and each way in which they end.
 module _ (percent : ℕ) (bs : List ℕ) (flows bytes up down kw : ℕ) where
-  pub rest_gives : (ns : List ℕ) → Gives ns (lent_check percent bs flows bytes) → member 19 ns ≡ true → member 20 ns ≡ true
+  pub rest_gives : (ns : List ℕ) → Gives ns (lent_check percent bs flows bytes) → plain NoTwoBuses ns ≡ true → plain InjectionOutside ns ≡ true
       → Gives ns (transfer_check percent bs flows bytes up down kw)
   unfolding transfer_check
   rest_gives ns g i j =

@@ -6,7 +6,7 @@ use Prim.Native.Nat.{ℕ, ◌+◌, ◌*◌, ◌≤◌, ◌<◌}
 use native.Mathlib.Omega.{arith}
 use lib.IntN.{ℤ, pos, nat_abs, ◌-ℤ◌}
 use lib.ListN.{length}
-use Rattle.std.specs.Prelude.{Option, None, Some}
+use Rattle.std.specs.Prelude.{None, Some}
 use Rattle.rows.specs.Row.{nth, member, headed}
 use Rattle.rows.specs.Bit.{has}
 use Rattle.rows.proofs.Row.{headed_rest, length_headed}
@@ -34,7 +34,7 @@ use Rattle.verdict.proofs.Normal.{normal, posed_normal, fits_normal}
 use Rattle.verdict.proofs.Shift.{shift_parts}
 use Rattle.state.specs.Case.{case_in}
 use Rattle.state.specs.Call.{lent, refuses, unfit, overloads, accepts}
-use Rattle.state.specs.Inside.{Held, State, Surveyed, Surveys, Raisable, Raised, Fillable, Poised, Changed, Listing, Rewritten}
+use Rattle.state.specs.Inside.{Held, State, Surveyed, Raisable, Raised, Fillable, Poised, Changed, Listing, Rewritten}
 use Rattle.state.specs.declared.Survey.{Survey}
 use Rattle.state.proofs.Status.{case_buses}
 use Rattle.state.proofs.TrueRecords.{held_net, limits, even, balanced}
@@ -85,13 +85,13 @@ module _ (percent : ℕ) (bs : List ℕ) (flow : List ℤ) (table : List ℕ) (u
     posed_here : Posed D
     posed_here = shifted_posed may.within may.apart (full_at_most may.passes.in_range)
 
-    pub ends_unfit : {o : Option Survey} {r : Answer} → Surveys percent bs flow o → o ≡ None → r ≡ refused FlowUnfit
+    pub ends_unfit : {q : Survey} {r : Answer} → Surveyed percent bs flow q → q.latent ≡ None → r ≡ refused FlowUnfit
         → TransferEnds percent up down kw (lent bs flow table) (lent bs flow table) r
     ends_unfit p e a = unfit ok (p.unfit e) (rw a (said_refused FlowUnfit (λ z. omega arith))) refl
 
-    module _ (q : Survey) (p : Surveyed percent bs flow q) where
-      state : State (normal C) (on flow) q.wires q.served q.live q.latent
-      state = p.state
+    module _ (q : Survey) (p : Surveyed percent bs flow q) (lat : Latent) (e : q.latent ≡ Some lat) where
+      state : State (normal C) (on flow) q.wires q.served q.live lat
+      state = p.fitting lat e
 
       lent_fits : Fits C C.limit (on flow)
       lent_fits = (fits_normal C C.limit (on flow)).1 state.fits
@@ -99,14 +99,14 @@ module _ (percent : ℕ) (bs : List ℕ) (flow : List ℤ) (table : List ℕ) (u
       pub listed_here : (q.wires.branches ≤ 256) × (52 * q.wires.branches ≤ length table)
       listed_here = (p.held.linked.wired.size, omega (arith, may.passes.table_room, p.branches_are))
 
-      pub deliverable_here : Deliverable q.wires q.latent up down kw
+      pub deliverable_here : Deliverable q.wires lat up down kw
       deliverable_here = record {
         linked = state.held.linked;
         sums = record {
           fit = λ k u. omega (
             arith,
-            (even (normal C) (on flow) q.wires q.served q.live q.latent state).twice k u,
-            limits (normal C) (on flow) q.wires q.served q.live q.latent state k u,
+            (even (normal C) (on flow) q.wires q.served q.live lat state).twice k u,
+            limits (normal C) (on flow) q.wires q.served q.live lat state k u,
           );
         };
         from_in = omega (arith, may.within.buses.up_there, p.held.buses_are, case_buses percent bs);
@@ -118,19 +118,19 @@ module _ (percent : ℕ) (bs : List ℕ) (flow : List ℤ) (table : List ℕ) (u
       held_here : Held (normal D) q.wires q.served q.live
       held_here = held_shifted up down kw (posed_normal D posed_here) state.held
 
-      module _ (y : Judgement) (z : Delivered q.wires q.latent up down kw y) where
+      module _ (y : Judgement) (z : Delivered q.wires lat up down kw y) where
         -- The kernel's word on the changed case.
         word : Answered (normal D) q.wires q.live y
         word = record {
-          kept = λ k u. z.kept k ∙ (even (normal C) (on flow) q.wires q.served q.live q.latent state).twice k u;
+          kept = λ k u. z.kept k ∙ (even (normal C) (on flow) q.wires q.served q.live lat state).twice k u;
           says = subst (λ (N : Net). Says N (carried (nth q.live) y.latent.ahead) y.short)
               (held_net (normal D) q.wires q.served q.live held_here)
               (z.says (nth q.live) (λ i. pos_part (C.injection i)) (λ i. neg_part (C.injection i))
               (λ i. pos_part (D.injection i)) (λ i. neg_part (D.injection i))
-              (even (normal C) (on flow) q.wires q.served q.live q.latent state)
-              (subst (λ (N : Net). Balanced N (carried (nth q.live) q.latent.ahead) nothing nothing)
+              (even (normal C) (on flow) q.wires q.served q.live lat state)
+              (subst (λ (N : Net). Balanced N (carried (nth q.live) lat.ahead) nothing nothing)
               (sym (held_net (normal C) q.wires q.served q.live state.held))
-              (balanced (normal C) (on flow) q.wires q.served q.live q.latent state))
+              (balanced (normal C) (on flow) q.wires q.served q.live lat state))
               (shift_parts C up down kw may.apart));
           grouped = z.grouped;
         }
@@ -166,14 +166,14 @@ module _ (percent : ℕ) (bs : List ℕ) (flow : List ℤ) (table : List ℕ) (u
 
           -- The flow of a branch is the same exactly if its latent capacity ahead is, and changes by no more than that does.
           both : (j : ℕ) → j < C.branches → nth y.latent.ahead j + pos_part (on flow' j) + neg_part (on flow j)
-              ≡ nth q.latent.ahead j + pos_part (on flow j) + neg_part (on flow' j)
+              ≡ nth lat.ahead j + pos_part (on flow j) + neg_part (on flow' j)
           both j u = omega (arith, state.latents.ahead_is j u, state_here.latents.ahead_is j u)
 
           slight_here : (j : ℕ) → j < C.branches → nat_abs (on flow' j -ℤ on flow j) ≤ kw
           slight_here j u = (apart_at_most (on flow' j) (on flow j) kw).1 (omega (arith, both j u, z.falls j), omega (arith, both j u, z.rises j))
 
           module _ (touched : List ℕ)
-              (m : Changed q.wires.branches q.latent.ahead y.latent.ahead q.wires.branches touched) where
+              (m : Changed q.wires.branches lat.ahead y.latent.ahead q.wires.branches touched) where
             in_wires : (j : ℕ) → j < C.branches → j < q.wires.branches
             in_wires j u = omega (arith, p.held.branches_are)
 

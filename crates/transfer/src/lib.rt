@@ -85,7 +85,6 @@ pub fn move_load(
 {
     let shift = Shift { up, down, kw };
     shift.check(percent, book, flow.len(), table.len())?;
-    let lent = state::survey_lent(percent, book, flow).ok_or(Refusal::FlowUnfit)?;
     let Survey {
         wires,
         served,
@@ -93,7 +92,8 @@ pub fn move_load(
         brief,
         latent,
         ..
-    } = lent;
+    } = state::survey_lent(percent, book, flow);
+    let latent = latent.ok_or(Refusal::FlowUnfit)?;
     let judged = reroute::deliver(wires, latent, up, down, kw);
     if let Some(lack) = judged.short {
         return Err(state::overloaded(lack));
