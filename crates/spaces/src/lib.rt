@@ -3,6 +3,7 @@
 #![tactic(auto)]
 
 ghost use Rattle.std.specs.Prelude.{◌≡◌, ◌+◌, ◌<◌, ◌≤◌, length, set, IfSome, IfNone};
+ghost use Rattle.rows.specs.Row.{two_at};
 ghost use Rattle.spaces.specs.InsideStream.{BookCopied, PercentSet, PlacesSet, Spoilt};
 
 mod numbers;
@@ -117,6 +118,18 @@ pub fn set_percent(rest: &[u8], percent: &mut u32) -> Option<usize>
     Some(2)
 }
 
+// The place that a command of `size` bytes names: `None` where the stream ends inside it.
+fn place_of(rest: &[u8], size: usize) -> Option<usize>
+    requires { 3 ≤ size }
+    ensures some { IfSome result (λ k. (size ≤ length rest.now) × (k ≡ two_at rest.now 1)) }
+    ensures none { IfNone result (length rest.now < size) }
+{
+    if rest.len() < size {
+        return None;
+    }
+    Some(two(rest, 1))
+}
+
 // A place that a command names, where its space has it.
 fn set<T: Copy>(space: &mut [T], k: usize, value: T) -> Option<()>
     ensures some { IfSome result (λ _. (k < length space.old) × (space.new ≡ set space.old k value)) }
@@ -141,20 +154,26 @@ pub fn set_place(
     ensures places_set { PlacesSet letter rest.now flow.old table.old injections.old branches.old flow.new table.new injections.new branches.new result }
     ensures upper_bound { IfSome result (λ n. n ≤ length rest.now) }
 {
-    // Asked before the `match`: a command that is cut off sets nothing, whichever it is.
-    let size = if letter == b'T' { 4 } else { 7 };
-    if rest.len() < size {
-        return None;
-    }
-    let k = two(rest, 1);
+    // The letter is asked before the length, in one `match`: compiled into a caller that asks it too, both are then one jump.
     match letter {
-        b'F' => set(flow, k, four(rest, 3).cast_signed())?,
-        b'T' => set(table, k, rest[3])?,
-        b'I' => set(injections, k, four(rest, 3).cast_signed())?,
-        b'N' => set(branches, k, four(rest, 3))?,
-        _ => return None,
+        b'F' => {
+            set(flow, place_of(rest, 7)?, four(rest, 3).cast_signed())?;
+            Some(7)
+        }
+        b'T' => {
+            set(table, place_of(rest, 4)?, rest[3])?;
+            Some(4)
+        }
+        b'I' => {
+            set(injections, place_of(rest, 7)?, four(rest, 3).cast_signed())?;
+            Some(7)
+        }
+        b'N' => {
+            set(branches, place_of(rest, 7)?, four(rest, 3))?;
+            Some(7)
+        }
+        _ => None,
     }
-    Some(size)
 }
 
 // The bytes that `B` names, put at the start of the book space: how many they are.
