@@ -28,6 +28,10 @@ joined (suc n) f = joined n f ++ f n
 abbrev pub next_of : ℕ → List ℕ
 next_of n = 32 ∷ decimal_of n
 
+-- A line of a list: a word, the text of each item, and the newline, 10.
+abbrev pub items_text : {A : Type 0} → (A → List ℕ) → List ℕ → List A → List ℕ
+items_text text word items = word ++ (flat_map text items ++ (10 ∷ []))
+
 -- How a line of bytes in hex ends: a space, 32, the bytes, and the newline, 10.
 abbrev pub hex_end : List ℕ → List ℕ
 hex_end bytes = 32 ∷ (flat_map hex_of bytes ++ (10 ∷ []))

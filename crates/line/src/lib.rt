@@ -12,7 +12,7 @@ mod whole;
 
 pub use items::Item;
 pub use reading::read_full;
-pub use whole::{answer_line, hex_line, list_line};
+pub use whole::{answer_line, hex_line, list_line, list_line_in};
 
 // The first `len` of the bytes hold it so far.
 #[derive(Drop)]

@@ -1,7 +1,7 @@
 // Whole lines: each is built in bytes enough for its longest text and a newline, and written to a printer, as standard output, at once.
 // How long its text is comes back, or why the write failed.
 ghost use Rattle.std.specs.Prelude.{[], ◌∷◌, ◌++◌, ◌≡◌, ◌+◌, ◌*◌, ◌≤◌, length, IfOk, flat_map};
-ghost use Rattle.line.specs.Text.{number_room, number_text, hex_text};
+ghost use Rattle.line.specs.Text.{items_text, number_room, number_text, hex_text};
 ghost use Rattle.line.specs.AnswerText.{answer_text};
 ghost use Rattle.line.specs.Inside.{Added, Room, Adds};
 
@@ -57,16 +57,27 @@ pub fn answer_line<R: Print>(rt: &R, word: &[u8], answer: Answer) -> io::Result<
     Ok(end)
 }
 
-// A word and the numbers of a list.
+// A word and the numbers of a list. The bytes are enough for the longest, and all are cleared for each line: a short list costs less in lent ones.
 pub fn list_line<R: Print, T: Item>(rt: &R, word: &[u8], items: &[T]) -> io::Result<usize>
     requires { (length word.now ≤ 10) × (T.most * length items.now ≤ 26880) }
     ensures { IfOk result (λ n. n ≡ length word.now + length (flat_map T.text items.now)) }
 {
     let mut bytes = [0u8; 26891];
-    let mut line = Line {
-        bytes: &mut bytes,
-        len: 0,
-    };
+    list_line_in(rt, &mut bytes, word, items)
+}
+
+// The same in lent bytes, as few as the list may want: they hold it, newline and all, even where the write fails.
+pub fn list_line_in<R: Print, T: Item>(
+    rt: &R,
+    out: &mut [u8],
+    word: &[u8],
+    items: &[T],
+) -> io::Result<usize>
+    requires { length word.now + T.most * length items.now + 1 ≤ length out.old }
+    ensures added { Added (items_text T.text word.now items.now) out.old 0 out.new (length (items_text T.text word.now items.now)) }
+    ensures value { IfOk result (λ n. n ≡ length word.now + length (flat_map T.text items.now)) }
+{
+    let mut line = Line { bytes: out, len: 0 };
     line.put(word);
     line.put_all(items);
     let end = line.len;

@@ -14,7 +14,7 @@ ghost use Rattle.tables.specs.Inside.{taken, ReadRun, WriteAsked, write_good, Wr
 
 use answer::Answer;
 use layout::Form;
-use line::{answer_line, hex_line, list_line};
+use line::{answer_line, hex_line, list_line, list_line_in};
 use rows::two;
 use spaces::{four, number_at};
 use std::io;
@@ -27,6 +27,15 @@ fn read(rest: &[u8], book: &[u8], injections: &mut [i32], branches: &mut [u32]) 
     let buses = number_at(rest, 1, injections.len())?;
     let numbers = number_at(rest, 3, branches.len())?;
     Some(book::read_book(book, &mut injections[..buses], &mut branches[..numbers]))
+}
+
+// The injections are few: `list_line` would clear nearly five times as many bytes for each line of them.
+fn injections_line<R: Print>(rt: &R, injections: &[i32]) -> io::Result<()>
+    requires { length injections.now ≤ 256 }
+{
+    let mut out = [0u8; 5643];
+    list_line_in(rt, &mut out, b"injections", injections)?;
+    Ok(())
 }
 
 // `R`.
@@ -46,7 +55,7 @@ pub fn run_read<R: Print>(
         return Ok(None);
     };
     answer_line(rt, b"read", answer)?;
-    list_line(rt, b"injections", injections)?;
+    injections_line(rt, injections)?;
     list_line(rt, b"branches", branches)?;
     Ok(Some(5))
 }
@@ -255,6 +264,6 @@ pub fn run_meters<R: Print>(
         return Ok(None);
     };
     answer_line(rt, b"meters", answer)?;
-    list_line(rt, b"injections", injections)?;
+    injections_line(rt, injections)?;
     Ok(Some(size))
 }

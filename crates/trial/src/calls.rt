@@ -6,7 +6,7 @@ ghost use Rattle.tables.specs.Inside.{taken};
 ghost use Rattle.trial.specs.InsideCalls.{ScreenRun, OutRun, BackRun, TransferRun, CallRun};
 
 use answer::Answer;
-use line::{answer_line, hex_line, list_line};
+use line::{answer_line, hex_line, list_line_in};
 use rows::two;
 use spaces::{Spaces, four, number_at};
 use std::io;
@@ -141,9 +141,10 @@ fn record_line<R: Print>(rt: &R, table: &[u8], k: usize) -> io::Result<()>
 
 // `D`: the book, the flow, and every record of the table.
 fn dump<R: Print>(rt: &R, s: &Spaces) -> io::Result<()> {
-    let mut out = [0u8; 4227];
+    // Enough for either line.
+    let mut out = [0u8; 5637];
     hex_line(rt, &mut out, b"book", Some(s.bytes), &s.book)?;
-    list_line(rt, b"flow", &s.flow)?;
+    list_line_in(rt, &mut out, b"flow", &s.flow)?;
     for k in 0..256 {
         record_line(rt, &s.table, k)?;
     }
