@@ -111,29 +111,31 @@ module _ {W : Wires} {limit : List ℕ} {latent : Latent} {k : ℕ} (P : Losable
   abbrev p : ℕ
   p = nth latent.ahead k
 
-  at_near : (x i : ℕ) → nth (set (replicate 128 0) (nth W.first k) x) i ≡ pick (eqb (nth W.first k) i) x
-  at_near x i = one_at 128 (nth W.first k) x i end_rows.0
+  -- Its ends as numbers, each with its equation.
+  module _ {near far : ℕ} (a : nth W.first k ≡ near) (b : nth W.second k ≡ far) where
+    at_near : (x i : ℕ) → nth (set (replicate 128 0) near x) i ≡ pick (eqb (nth W.first k) i) x
+    at_near x i = rw (sym a) (one_at 128 (nth W.first k) x i end_rows.0)
 
-  at_far : (x i : ℕ) → nth (set (replicate 128 0) (nth W.second k) x) i ≡ pick (eqb (nth W.second k) i) x
-  at_far x i = one_at 128 (nth W.second k) x i end_rows.1
+    at_far : (x i : ℕ) → nth (set (replicate 128 0) far x) i ≡ pick (eqb (nth W.second k) i) x
+    at_far x i = rw (sym b) (one_at 128 (nth W.second k) x i end_rows.1)
 
-  pub opened_ahead : p < l
-      → Opened W limit latent k (record { surplus = set (replicate 128 0) (nth W.first k) (l - p); deficit = set (replicate 128 0) (nth W.second k) (l - p) })
-  opened_ahead h =
-      record {
-        differ = λ i. omega (arith, at_near (l - p) i, at_far (l - p) i, pick_sub (eqb (nth W.first k) i) p l (omega arith), pick_sub (eqb (nth W.second k) i) p l (omega arith));
-        small = λ i. rw (at_near (l - p) i) (pick_most (eqb (nth W.first k) i) (l - p) 1000000 (omega (arith, P.limits k P.below)));
-        apart = λ i. rw (at_near (l - p) i, at_far (l - p) i) (pick_apart (nth W.first k) (nth W.second k) (l - p) i P.different);
-      }
+    pub opened_ahead : p < l
+        → Opened W limit latent k (record { surplus = set (replicate 128 0) near (l - p); deficit = set (replicate 128 0) far (l - p) })
+    opened_ahead h =
+        record {
+          differ = λ i. omega (arith, at_near (l - p) i, at_far (l - p) i, pick_sub (eqb (nth W.first k) i) p l (omega arith), pick_sub (eqb (nth W.second k) i) p l (omega arith));
+          small = λ i. rw (at_near (l - p) i) (pick_most (eqb (nth W.first k) i) (l - p) 1000000 (omega (arith, P.limits k P.below)));
+          apart = λ i. rw (at_near (l - p) i, at_far (l - p) i) (pick_apart (nth W.first k) (nth W.second k) (l - p) i P.different);
+        }
 
-  pub opened_back : l ≤ p
-      → Opened W limit latent k (record { surplus = set (replicate 128 0) (nth W.second k) (p - l); deficit = set (replicate 128 0) (nth W.first k) (p - l) })
-  opened_back h =
-      record {
-        differ = λ i. omega (arith, at_near (p - l) i, at_far (p - l) i, pick_sub (eqb (nth W.first k) i) l p (omega arith), pick_sub (eqb (nth W.second k) i) l p (omega arith));
-        small = λ i. rw (at_far (p - l) i) (pick_most (eqb (nth W.second k) i) (p - l) 1000000 (omega (arith, P.limits k P.below, P.even.twice k P.below)));
-        apart = λ i. rw (at_near (p - l) i, at_far (p - l) i) (pick_apart (nth W.second k) (nth W.first k) (p - l) i (λ e. P.different (sym e)));
-      }
+    pub opened_back : l ≤ p
+        → Opened W limit latent k (record { surplus = set (replicate 128 0) far (p - l); deficit = set (replicate 128 0) near (p - l) })
+    opened_back h =
+        record {
+          differ = λ i. omega (arith, at_near (p - l) i, at_far (p - l) i, pick_sub (eqb (nth W.first k) i) l p (omega arith), pick_sub (eqb (nth W.second k) i) l p (omega arith));
+          small = λ i. rw (at_far (p - l) i) (pick_most (eqb (nth W.second k) i) (p - l) 1000000 (omega (arith, P.limits k P.below, P.even.twice k P.below)));
+          apart = λ i. rw (at_near (p - l) i, at_far (p - l) i) (pick_apart (nth W.second k) (nth W.first k) (p - l) i (λ e. P.different (sym e)));
+        }
 
   module _ (la : length latent.ahead ≡ 256) (lb : length latent.back ≡ 256) where
     cut_a : (j : ℕ) → nth (set latent.ahead k 0) j ≡ cond (eqb j k) 0 (nth latent.ahead j)
