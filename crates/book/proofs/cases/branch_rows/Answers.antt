@@ -14,10 +14,13 @@ pub overflow_cast-second : goal.overflow_cast-second
 overflow_cast-second c =
     let w = ends_fit c.args.h.form _ _ c.loop-k.k _ c.branch_at-x.ensures in omega (arith, w.second_fits)
 
+-- Row by row, so that one that holds another number is named.
 pub loop-k-preserved : goal.loop-k-preserved
 loop-k-preserved c =
-    branching_more _ _ _ _ _ _ _ _ _ _ _ _ _ _ _ c.loop-k-test.true c.requires.0.few_branches c.loop-k.invariant
+    let w = branching_more _ _ _ _ _ _ _ _ _ _ _ _ _ _ _ c.loop-k-test.true c.requires.0.few_branches c.loop-k.invariant
     c.branch_at-x.ensures c.limit.ensures c.limit-in-loop-k.ensures
+    in
+    record { firsts = w.firsts; seconds = w.seconds; serveds = w.serveds; limits = w.limits; losses = w.losses }
 
 pub returns : goal.returns
 returns c = branching_end _ _ _ _ _ _ _ _ _ c.loop-k-test.false c.loop-k.invariant
