@@ -13,9 +13,9 @@ use Rattle.restore.specs.Promise.{Anew, itself, not_carrying}
 
 -- ---- The test of one record.
 module _ (rec : List ℕ) (b k : ℕ) where
-  pub by_itself : k ≡ b → true ≡ anew_if rec b k
+  pub by_itself : {told : Bool} → k ≡ b → told ≡ true → told ≡ anew_if rec b k
   unfolding anew_if
-  by_itself e = rw (eq-eqb k b e) refl
+  by_itself e t = t ∙ rw (eq-eqb k b e) refl
 
   pub by_record : (k ≡ b → ⊥) → not (eqb (verdict_in rec) 1) ≡ anew_if rec b k
   unfolding anew_if
