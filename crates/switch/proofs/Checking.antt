@@ -7,9 +7,8 @@ use native.Mathlib.Omega.{arith}
 use borrow.Author.Tests.{le-leb, lt-leb, leb-false, eq-eqb, ne_eqb, eqb-true, eqb-false}
 use lib.Dec.{eqb, leb}
 use Rattle.answer.specs.declared.Refusal.TheVariants.{NoSuchBranch}
-use Rattle.rows.specs.Row.{member}
 use Rattle.answer.specs.declared.Refusal.{Refusal}
-use Rattle.answer.specs.Answer.{Answer, Accepted, number, refused}
+use Rattle.answer.specs.Answer.{Answer, Accepted, refused}
 use Rattle.answer.proofs.Refusals.{past, past_both, stands}
 use Rattle.answer.proofs.Giving.{Gives, plain}
 use Rattle.answer.proofs.Numbers.{gives_if, gives_then}
