@@ -1,6 +1,7 @@
 -- What a public call answers: the papers' number, shortage and group, where a book is wrong, and ordered refusals.
 use Rattle.std.specs.Prelude.{◌≡◌, Bool, true, false, List, [], ◌∷◌, ℕ, replicate, Option, Some, None, Result, Ok, Err}
 use Rattle.answer.specs.declared.Place.{Place}
+use Rattle.answer.specs.declared.Reply.{Reply}
 use Rattle.answer.specs.declared.Refusal.{Refusal}
 use Rattle.answer.specs.declared.Refusal.TheVariants.{WrongLength, CountsOutside, HeaderFill, BusWrong, BranchWrong, TailFill, NotBalanced, TooShort, NoSuchBranch, AlreadyOut, FlowUnfit, Overloaded, ListsUneven, NoSuchSupply, AdvanceTooFar, SupplyOutside, AlreadyIn, RatingsLost, NoTwoBuses, InjectionOutside, PercentOutside}
 
@@ -88,6 +89,10 @@ abbrev pub field_of : Option Place → ℕ
 field_of None = 0
 field_of (Some at) = at.field
 
+-- An answer in its parts, as a line or a caller in C is told it.
+abbrev pub reply : Answer → Reply
+reply r = record { number = number_of r; shortage = shortage_of r; group = group_of r; place = place_of r }
+
 -- What the papers say of an answer: its number, shortage, group bytes and place. Two answers of which the same is said are equal.
 pub record Said (r : Answer) (said kw : ℕ) (bytes : List ℕ) (at : Option Place) : Type 0 where
   pub number_is : number_of r ≡ said
@@ -105,8 +110,8 @@ refused why = Err why
 abbrev pub overloaded : ℕ → List ℕ → Answer
 overloaded kw bytes = Err (Overloaded kw bytes)
 
--- Refusals in order: the first that holds is given.
-abbrev pub refuse_if : Bool → Refusal → Answer → Answer
+-- Refusals in order: the first that holds is given. What comes last may be accepted, or what a check found out.
+abbrev pub refuse_if : {A : Type 0} → Bool → Refusal → Result A Refusal → Result A Refusal
 refuse_if true why next = Err why
 refuse_if false why next = next
 
@@ -115,7 +120,7 @@ abbrev pub refuse_at : Option Place → (Place → Refusal) → Answer → Answe
 refuse_at None why next = next
 refuse_at (Some at) why next = Err (why at)
 
-abbrev pub and_then : Answer → Answer → Answer
+abbrev pub and_then : {A : Type 0} → Answer → Result A Refusal → Result A Refusal
 and_then (Ok _) next = next
 and_then (Err why) next = Err why
 

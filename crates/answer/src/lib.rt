@@ -2,7 +2,8 @@
 #![tactic(auto)]
 
 ghost use Rattle.std.specs.Prelude.{◌≡◌};
-ghost use Rattle.answer.specs.Answer.{number, place, number_of, shortage_of, group_of, place_of, item_of, field_of};
+ghost use Rattle.answer.specs.declared.Reply.{Reply};
+ghost use Rattle.answer.specs.Answer.{number, shortage, group, place, reply, item_of, field_of};
 
 // Where a book is wrong: which bus or branch, numbered from 0, and which of its fields, numbered from 1 in layout order.
 #[derive(Clone, Copy, Debug, PartialEq, Eq)]
@@ -69,6 +70,25 @@ impl Refusal {
         }
     }
 
+    // The kW and the group of 12: the others have none.
+    pub fn shortage(self) -> u32
+        ensures { result ≡ shortage self }
+    {
+        match self {
+            Refusal::Overloaded { kw, group: _ } => kw,
+            _ => 0,
+        }
+    }
+
+    pub fn group(self) -> [u8; 16]
+        ensures { result ≡ group self }
+    {
+        match self {
+            Refusal::Overloaded { kw: _, group } => group,
+            _ => [0u8; 16],
+        }
+    }
+
     // Where the book is wrong, for the two that say so.
     pub fn place(self) -> Option<Place>
         ensures { result ≡ place self }
@@ -80,38 +100,75 @@ impl Refusal {
     }
 }
 
-// An answer in numbers: 0 where the call was accepted.
-pub fn number_of(answer: Answer) -> u8
-    ensures { result ≡ number_of answer }
-{
-    match answer {
-        Ok(()) => 0,
-        Err(why) => why.number(),
+// An answer in its parts, as a line or a caller in C is told it. Any four may stand here, whether or not a call ends with them.
+#[derive(Clone, Copy, Debug, PartialEq, Eq)]
+pub struct Reply {
+    pub number: u8,
+    pub shortage: u32,
+    pub group: [u8; 16],
+    pub place: Option<Place>,
+}
+
+// What can be told: an answer, and any reply in place of one.
+pub trait ToReply: Copy {
+    ghost reply: { Self → Reply };
+
+    fn to_reply(self) -> Reply
+        ensures { result ≡ reply self };
+}
+
+impl ToReply for Reply {
+    ghost reply = { λ t. t };
+
+    fn to_reply(self) -> Reply {
+        self
     }
 }
 
-pub fn shortage_of(answer: Answer) -> u32
-    ensures { result ≡ shortage_of answer }
-{
-    match answer {
-        Err(Refusal::Overloaded { kw, group: _ }) => kw,
-        _ => 0,
+// 0, no shortage, an empty group and no place where the call was accepted.
+impl ToReply for Answer {
+    ghost reply = { reply };
+
+    fn to_reply(self) -> Reply {
+        match self {
+            Ok(()) => Reply {
+                number: 0,
+                shortage: 0,
+                group: [0u8; 16],
+                place: None,
+            },
+            Err(why) => Reply {
+                number: why.number(),
+                shortage: why.shortage(),
+                group: why.group(),
+                place: why.place(),
+            },
+        }
     }
 }
 
-pub fn group_of(answer: Answer) -> [u8; 16]
-    ensures { result ≡ group_of answer }
+pub fn number_of<A: ToReply>(answer: A) -> u8
+    ensures { result ≡ (A.reply answer).number }
 {
-    match answer {
-        Err(Refusal::Overloaded { kw: _, group }) => group,
-        _ => [0u8; 16],
-    }
+    answer.to_reply().number
 }
 
-pub fn place_of(answer: Answer) -> Option<Place>
-    ensures { result ≡ place_of answer }
+pub fn shortage_of<A: ToReply>(answer: A) -> u32
+    ensures { result ≡ (A.reply answer).shortage }
 {
-    answer.err()?.place()
+    answer.to_reply().shortage
+}
+
+pub fn group_of<A: ToReply>(answer: A) -> [u8; 16]
+    ensures { result ≡ (A.reply answer).group }
+{
+    answer.to_reply().group
+}
+
+pub fn place_of<A: ToReply>(answer: A) -> Option<Place>
+    ensures { result ≡ (A.reply answer).place }
+{
+    answer.to_reply().place
 }
 
 // A place in two numbers: both are 0 where there is none, which no field is.

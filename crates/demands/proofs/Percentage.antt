@@ -23,7 +23,7 @@ use Rattle.state.specs.Case.{case_of}
 use Rattle.state.specs.Call as call
 use Rattle.state.specs.Call.{lent_check, Ends}
 use Rattle.state.proofs.Checked.{by_percent, in_range_gives}
-use Rattle.switch.specs.Check.{branch_check}
+use Rattle.switch.specs.Check.{branch_check, branch_status}
 use Rattle.switch.proofs.Checking.{by_lent, branch_gives}
 use Rattle.screen.specs.Promise.{screen_check, ScreenEnds, refuses, overloads, accepts}
 use Rattle.outage.specs.Promise.{TakeEnds}
@@ -139,9 +139,10 @@ module _ (p q : ℕ) (one : percent_out p ≡ false) (two : percent_out q ≡ fa
   unfolding lent_check
   lent_alike = rw (one, two) refl
 
-  pub branch_alike : (b v : ℕ) (n : Refusal) → branch_check p bs flows bytes b v n ≡ branch_check q bs flows bytes b v n
-  unfolding branch_check
-  branch_alike b v n = rw lent_alike refl
+  pub branch_alike : (b v : ℕ) → (branch_status p bs flows bytes b v ≡ branch_status q bs flows bytes b v)
+      × ((n : Refusal) → branch_check p bs flows bytes b v n ≡ branch_check q bs flows bytes b v n)
+  unfolding branch_check branch_status
+  branch_alike b v = (rw lent_alike refl, λ n. rw lent_alike refl)
 
   pub transfer_alike : (up down kw : ℕ) → transfer_check p bs flows bytes up down kw ≡ transfer_check q bs flows bytes up down kw
   unfolding transfer_check

@@ -1,7 +1,8 @@
--- The text of a group, of a place and of an answer.
+-- The text of a group, of a place, of what is told of an answer, and of an answer.
 use Rattle.std.specs.Prelude.{cond, List, [], ◌++◌, ℕ, Option, Some, None}
 use Rattle.answer.specs.declared.Place.{Place}
-use Rattle.answer.specs.Answer.{Answer, number_of, shortage_of, group_of, place_of}
+use Rattle.answer.specs.declared.Reply.{Reply}
+use Rattle.answer.specs.Answer.{Answer, reply}
 use Rattle.rows.specs.Bit.{has}
 use Rattle.rows.specs.Sum.{Group, size}
 use Rattle.line.specs.Text.{next_of, joined}
@@ -20,5 +21,8 @@ place_text None = []
 place_text (Some at) = next_of at.item ++ next_of at.field
 
 -- The number, the shortage, the group, the place.
+abbrev pub reply_text : Reply → List ℕ
+reply_text t = next_of t.number ++ (next_of t.shortage ++ (group_text t.group ++ place_text t.place))
+
 abbrev pub answer_text : Answer → List ℕ
-answer_text r = next_of (number_of r) ++ (next_of (shortage_of r) ++ (group_text (group_of r) ++ place_text (place_of r)))
+answer_text r = reply_text (reply r)

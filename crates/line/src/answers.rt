@@ -1,9 +1,9 @@
 // The text of a group, of a place and of an answer, added to a line.
 ghost use Rattle.line.specs.Inside.{Room, Adds};
-ghost use Rattle.line.specs.AnswerText.{group_text, place_text, answer_text};
+ghost use Rattle.line.specs.AnswerText.{group_text, place_text, reply_text};
 
 use crate::Line;
-use answer::{Answer, Place, group_of, number_of, place_of, shortage_of};
+use answer::{Place, ToReply};
 
 impl<'a> Line<'a> {
     // The number of buses in the group, and these in rising order.
@@ -32,14 +32,15 @@ impl<'a> Line<'a> {
         }
     }
 
-    // The number of the answer, its shortage, its group and its place.
-    pub fn put_answer(&mut self, answer: Answer)
+    // What is told of an answer: its number, its shortage, its group and its place.
+    pub fn put_answer<A: ToReply>(&mut self, answer: A)
         requires { Room 2793 self.old }
-        ensures { Adds (answer_text answer) 2793 self.old self.new }
+        ensures { Adds (reply_text (A.reply answer)) 2793 self.old self.new }
     {
-        self.put_next(u64::from(number_of(answer)));
-        self.put_next(u64::from(shortage_of(answer)));
-        self.put_group(group_of(answer));
-        self.put_place(place_of(answer));
+        let reply = answer.to_reply();
+        self.put_next(u64::from(reply.number));
+        self.put_next(u64::from(reply.shortage));
+        self.put_group(reply.group);
+        self.put_place(reply.place);
     }
 }

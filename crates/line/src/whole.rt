@@ -2,11 +2,11 @@
 // How long its text is comes back, or why the write failed.
 ghost use Rattle.std.specs.Prelude.{[], ◌∷◌, ◌++◌, ◌≡◌, ◌+◌, ◌*◌, ◌≤◌, length, IfOk, flat_map};
 ghost use Rattle.line.specs.Text.{items_text, number_room, number_text, hex_text};
-ghost use Rattle.line.specs.AnswerText.{answer_text};
+ghost use Rattle.line.specs.AnswerText.{reply_text};
 ghost use Rattle.line.specs.Inside.{Added, Room, Adds};
 
 use crate::{Item, Line};
-use answer::Answer;
+use answer::ToReply;
 use std::io;
 
 impl<'a> Line<'a> {
@@ -40,10 +40,10 @@ impl<'a> Line<'a> {
     }
 }
 
-// A word and the answer: its number, the shortage, the group, the place.
-pub fn answer_line<R: Print>(rt: &R, word: &[u8], answer: Answer) -> io::Result<usize>
+// A word and what is told of an answer: its number, the shortage, the group, the place.
+pub fn answer_line<R: Print, A: ToReply>(rt: &R, word: &[u8], answer: A) -> io::Result<usize>
     requires { length word.now ≤ 10 }
-    ensures { IfOk result (λ n. n ≡ length (word.now ++ answer_text answer)) }
+    ensures { IfOk result (λ n. n ≡ length (word.now ++ reply_text (A.reply answer))) }
 {
     let mut bytes = [0u8; 2804];
     let mut line = Line {

@@ -36,15 +36,10 @@ fn lose(
 ) -> Result<usize, Refusal>
     ensures { TakeCounted percent branch (lent book.old flow.old table.old) (lent book.new flow.new table.new) (taken result) }
 {
-    switch::check(
-        percent,
-        book,
-        flow.len(),
-        table.len(),
-        branch,
-        0,
-        Refusal::AlreadyOut,
-    )?;
+    let already = switch::check(percent, book, flow.len(), table.len(), branch, 0)?;
+    if already {
+        return Err(Refusal::AlreadyOut);
+    }
     let Survey {
         wires,
         served,

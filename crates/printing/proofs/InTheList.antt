@@ -11,7 +11,7 @@ use Rattle.rows.specs.Row.{member}
 use Rattle.rows.specs.Sum.{Group}
 use Rattle.std.specs.Prelude.{Option}
 use Rattle.answer.specs.declared.Place.{Place}
-use Rattle.answer.specs.Answer.{Answer, Accepted, At, SaidBy, number_of, place_of, settled}
+use Rattle.answer.specs.Answer.{Answer, Accepted, At, SaidBy, number_of, place_of, reply, settled}
 use Rattle.answer.proofs.Numbers.{gives_not}
 use Rattle.answer.proofs.Refusals.{leaves, at_not_nowhere}
 use Rattle.layout.specs.Layout.{buses_in, branches_in}
@@ -125,7 +125,7 @@ module _ {percent : ℕ} {bs : List ℕ} {flow : List ℤ} {table : List ℕ} {a
 -- ---- A refused book.
 said_by_check : (o : Answer) {r : Answer} → SaidBy o r → (number_of o ≡ 12 → ⊥)
     → refused_text r ≡ refused_word ++ (next_of (number_of o) ++ place_text (place_of o))
-said_by_check o {r} s h = ap (λ (t : List ℕ). refused_word ++ t) (sym (reason_other r (sym s.number_is) h (sym s.place_is)))
+said_by_check o {r} s h = ap (λ (t : List ℕ). refused_word ++ t) (sym (reason_other (reply r) (sym s.number_is) h (sym s.place_is)))
 
 over_said : (C : Case) → C.buses ≤ 128 → {r : Answer} → OverloadSaid C r → (v : ℕ) (S : Group) → Overload C v S
     → refused_text r ≡ refused_word ++ (next_of 12 ++ short_over C.buses v S)

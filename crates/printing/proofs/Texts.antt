@@ -9,7 +9,8 @@ use Rattle.answer.specs.declared.Place.{Place}
 use Rattle.std.proofs.Common.{Err}
 use Rattle.answer.specs.declared.Refusal.{Refusal}
 use Rattle.answer.specs.declared.Refusal.TheVariants.{WrongLength, CountsOutside, HeaderFill, BusWrong, BranchWrong, TailFill, NotBalanced, TooShort, NoSuchBranch, AlreadyOut, FlowUnfit, Overloaded, ListsUneven, NoSuchSupply, AdvanceTooFar, SupplyOutside, AlreadyIn, RatingsLost, NoTwoBuses, InjectionOutside, PercentOutside}
-use Rattle.answer.specs.Answer.{Answer, number, place, number_of, shortage_of, group_of, place_of}
+use Rattle.answer.specs.declared.Reply.{Reply}
+use Rattle.answer.specs.Answer.{number, place, reply}
 use Rattle.layout.specs.declared.Head.{Head}
 use Rattle.layout.specs.Inside.{HeadRead}
 use Rattle.verdict.specs.Record.{record_at, verdict_in}
@@ -44,15 +45,15 @@ module _ {rec : List ℕ} {s : Entry} (r : Read rec s) where
       rw (ne_eqb (verdict_in rec) 0 (λ q. g (r.verdict_is ∙ q)), ne_eqb (verdict_in rec) 1 (λ q. h (r.verdict_is ∙ q)))
       (rw (r.verdict_is, r.shortage_is, r.group_is) refl)
 
-module _ (r : Answer) where
-  pub reason_twelve : {n kw : ℕ} → n ≡ number_of r → n ≡ 12 → kw ≡ shortage_of r → next_of n ++ short_text kw (group_of r) ≡ reason_text r
-  reason_twelve e h f = rw (e, f, eq-eqb (number_of r) 12 (sym e ∙ h)) refl
+module _ (t : Reply) where
+  pub reason_twelve : {n kw : ℕ} → n ≡ t.number → n ≡ 12 → kw ≡ t.shortage → next_of n ++ short_text kw t.group ≡ reason_text t
+  reason_twelve e h f = rw (e, f, eq-eqb t.number 12 (sym e ∙ h)) refl
 
-  pub reason_other : {n : ℕ} {p : Option Place} → n ≡ number_of r → n ≢ 12 → p ≡ place_of r → next_of n ++ place_text p ≡ reason_text r
-  reason_other e h f = rw (e, f, ne_eqb (number_of r) 12 (λ q. h (e ∙ q))) refl
+  pub reason_other : {n : ℕ} {p : Option Place} → n ≡ t.number → n ≢ 12 → p ≡ t.place → next_of n ++ place_text p ≡ reason_text t
+  reason_other e h f = rw (e, f, ne_eqb t.number 12 (λ q. h (e ∙ q))) refl
 
 -- Every reason but 12 shows its number and its place.
-pub reason_placed : (why : Refusal) → ((kw : ℕ) (bytes : List ℕ) → why ≡ Overloaded kw bytes → ⊥) → next_of (number why) ++ place_text (place why) ≡ reason_text (Err why)
+pub reason_placed : (why : Refusal) → ((kw : ℕ) (bytes : List ℕ) → why ≡ Overloaded kw bytes → ⊥) → next_of (number why) ++ place_text (place why) ≡ reason_text (reply (Err why))
 reason_placed WrongLength h = refl
 reason_placed CountsOutside h = refl
 reason_placed HeaderFill h = refl

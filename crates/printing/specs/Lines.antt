@@ -1,6 +1,7 @@
 -- The text of each line of document 01's list, without its newline.
 use Rattle.std.specs.Prelude.{cond, List, [], ◌∷◌, ◌++◌, ℕ, eqb, take, drop}
-use Rattle.answer.specs.Answer.{Answer, number_of, shortage_of, group_of, place_of}
+use Rattle.answer.specs.declared.Reply.{Reply}
+use Rattle.answer.specs.Answer.{Answer, reply}
 use Rattle.layout.specs.Layout.{buses_in, branches_in}
 use Rattle.verdict.specs.Record.{record_at, verdict_in, shortage_in}
 use Rattle.line.specs.Text.{decimal_of, next_of}
@@ -45,11 +46,9 @@ shown_text rec =
 abbrev pub branch_text : List ℕ → ℕ → List ℕ
 branch_text table k = decimal_of k ++ shown_text (record_at table k)
 
--- The number of the refusal; for 12 also shortage and group, for 4 and 5 also the place.
-abbrev pub reason_text : Answer → List ℕ
-reason_text r =
-    next_of (number_of r)
-    ++ cond (eqb (number_of r) 12) (short_text (shortage_of r) (group_of r)) (place_text (place_of r))
+-- The number of the refusal; for 12 also shortage and group, for any other the place if it has one, as 4 and 5 have.
+abbrev pub reason_text : Reply → List ℕ
+reason_text t = next_of t.number ++ cond (eqb t.number 12) (short_text t.shortage t.group) (place_text t.place)
 
 abbrev pub refused_text : Answer → List ℕ
-refused_text r = refused_word ++ reason_text r
+refused_text r = refused_word ++ reason_text (reply r)

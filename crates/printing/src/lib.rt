@@ -55,7 +55,7 @@ fn print_refused<R: Print>(rt: &R, why: Refusal) -> io::Result<usize>
         bytes: &mut bytes,
         len: 0,
     };
-    put_refused(&mut line, why);
+    put_refused(&mut line, Err(why));
     line.write(rt)
 }
 

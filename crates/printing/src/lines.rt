@@ -1,9 +1,9 @@
 // The lines of document 01's list, each added to what a line holds.
-ghost use Rattle.std.specs.Prelude.{◌+◌, ◌*◌, ◌≤◌, length, Err};
+ghost use Rattle.std.specs.Prelude.{◌++◌, ◌+◌, ◌*◌, ◌≤◌, length};
 ghost use Rattle.line.specs.Inside.{Room, Adds};
-ghost use Rattle.printing.specs.Lines.{head_text, short_text, missing_word, branch_text, refused_text};
+ghost use Rattle.printing.specs.Lines.{head_text, short_text, missing_word, branch_text, refused_word, reason_text};
 
-use answer::Refusal;
+use answer::ToReply;
 use line::Line;
 
 // The counts as the book's header has them.
@@ -55,14 +55,16 @@ pub fn put_branch(line: &mut Line<'_>, table: &[u8], k: usize)
     }
 }
 
-pub fn put_refused(line: &mut Line<'_>, why: Refusal)
+// The number of a refusal; for 12 also the shortage and the group, for any other the place where it has one.
+pub fn put_refused<A: ToReply>(line: &mut Line<'_>, answer: A)
     requires { Room 2758 line.old }
-    ensures { Adds (refused_text (Err why)) 2758 line.old line.new }
+    ensures { Adds (refused_word ++ reason_text (A.reply answer)) 2758 line.old line.new }
 {
+    let reply = answer.to_reply();
     line.put(b"refused");
-    line.put_next(u64::from(why.number()));
-    match why {
-        Refusal::Overloaded { kw, group } => put_short(line, kw, group),
-        _ => line.put_place(why.place()),
+    line.put_next(u64::from(reply.number));
+    match reply.number {
+        12 => put_short(line, reply.shortage, reply.group),
+        _ => line.put_place(reply.place),
     }
 }

@@ -39,15 +39,10 @@ pub fn bring_back(
 ) -> Answer
     ensures { BackEnds percent branch (lent book.old flow.now table.old) (lent book.new flow.now table.new) result }
 {
-    switch::check(
-        percent,
-        book,
-        flow.len(),
-        table.len(),
-        branch,
-        1,
-        Refusal::AlreadyIn,
-    )?;
+    let already = switch::check(percent, book, flow.len(), table.len(), branch, 1)?;
+    if already {
+        return Err(Refusal::AlreadyIn);
+    }
     let Survey {
         wires,
         served,

@@ -1,6 +1,6 @@
 -- The check of a branch to be switched: each way in which it ends, what it says once passed, and which numbers it gives.
 use mathlib.Core.Path.{◌≡◌, refl, sym, ap, ◌∙◌}
-use mathlib.Core.Bool.{true, false}
+use mathlib.Core.Bool.{Bool, true, false}
 use mathlib.Core.List.{List}
 use Prim.Native.Nat.{ℕ, ◌≤◌, ◌<◌}
 use native.Mathlib.Omega.{arith}
@@ -8,7 +8,8 @@ use borrow.Author.Tests.{le-leb, lt-leb, leb-false, eq-eqb, ne_eqb, eqb-true, eq
 use lib.Dec.{eqb, leb}
 use Rattle.answer.specs.declared.Refusal.TheVariants.{NoSuchBranch}
 use Rattle.answer.specs.declared.Refusal.{Refusal}
-use Rattle.answer.specs.Answer.{Answer, Accepted, refused}
+use Rattle.std.specs.Prelude.{Result, Ok, Err}
+use Rattle.answer.specs.Answer.{Answer, Accepted, refused, refuse_if, and_then}
 use Rattle.answer.proofs.Refusals.{past, past_both, stands}
 use Rattle.answer.proofs.Giving.{Gives, plain}
 use Rattle.answer.proofs.Numbers.{gives_if, gives_then}
@@ -21,7 +22,7 @@ use Rattle.layout.proofs.WellFormed.{accepted_well, branch_of_lem, count_of}
 use Rattle.state.specs.Case.{case_of, case_in}
 use Rattle.state.specs.Call.{lent_check}
 use Rattle.state.proofs.Checked.{Passed, passed, passing}
-use Rattle.switch.specs.Check.{branch_check}
+use Rattle.switch.specs.Check.{branch_check, branch_status}
 
 -- The checks passed: those of every call, and a branch that hasn't the status v.
 pub record Switchable (percent : ℕ) (bs : List ℕ) (flows bytes b v : ℕ) : Type 0 where
@@ -41,6 +42,11 @@ module _ {percent : ℕ} (bs : List ℕ) (flows bytes b v : ℕ) (n : Refusal) w
   pub switching : Switchable percent bs flows bytes b v → branch_check percent bs flows bytes b v n ≡ Accepted
   unfolding branch_check
   switching t = rw (passing bs flows bytes t.passes, lt-leb (branches_in bs) b t.there, ne_eqb (branch (book_of bs) b).status v t.other) refl
+
+-- The status that is read of the book.
+status_read : (bs : List ℕ) (b : ℕ) → b < branches_in bs → (x : Branch) (f : Form) (m : ℕ) → f ≡ form_in bs → m ≡ buses_in bs → x ≡ branch_after f m bs b
+    → (branch (book_of bs) b).status ≡ x.status
+status_read bs b u x f m o q e = ap (λ (y : Branch). y.status) (branch_of_lem bs b u ∙ sym (e ∙ rw (o, q) refl))
 
 -- Which numbers it gives, and each way in which it ends.
 module _ (percent : ℕ) (bs : List ℕ) (flows bytes b v : ℕ) (n : Refusal) where
@@ -63,7 +69,7 @@ module _ (percent : ℕ) (bs : List ℕ) (flows bytes b v : ℕ) (n : Refusal) w
 
     module _ (u : b < branches_in bs) (x : Branch) (f : Form) (m : ℕ) (o : f ≡ form_in bs) (q : m ≡ buses_in bs) (e : x ≡ branch_after f m bs b) where
       status : (branch (book_of bs) b).status ≡ x.status
-      status = ap (λ (y : Branch). y.status) (branch_of_lem bs b u ∙ sym (e ∙ rw (o, q) refl))
+      status = status_read bs b u x f m o q e
 
       pub by_status : x.status ≡ v → refused n ≡ branch_check percent bs flows bytes b v n
       unfolding branch_check
@@ -72,6 +78,55 @@ module _ (percent : ℕ) (bs : List ℕ) (flows bytes b v : ℕ) (n : Refusal) w
       pub by_none : (x.status ≡ v → ⊥) → Accepted ≡ branch_check percent bs flows bytes b v n
       unfolding branch_check
       by_none o = rw (ok, lt-leb (branches_in bs) b u, status, ne_eqb x.status v o) refl
+
+-- The check without a reason of its own: each way in which it ends.
+module _ (percent : ℕ) (bs : List ℕ) (flows bytes b v : ℕ) where
+  pub status_lent : {why : Refusal} → lent_check percent bs flows bytes ≡ refused why → Err why ≡ branch_status percent bs flows bytes b v
+  unfolding branch_status
+  status_lent e = rw e refl
+
+  module _ (ok : lent_check percent bs flows bytes ≡ Accepted) where
+    pub status_nowhere : branches_in bs ≤ b → Err NoSuchBranch ≡ branch_status percent bs flows bytes b v
+    unfolding branch_status
+    status_nowhere u = rw (ok, le-leb (branches_in bs) b u) refl
+
+    module _ (u : b < branches_in bs) (x : Branch) (f : Form) (m : ℕ) (o : f ≡ form_in bs) (q : m ≡ buses_in bs) (e : x ≡ branch_after f m bs b) where
+      pub status_there : x.status ≡ v → Ok true ≡ branch_status percent bs flows bytes b v
+      unfolding branch_status
+      status_there s = rw (ok, lt-leb (branches_in bs) b u, status_read bs b u x f m o q e, eq-eqb x.status v s) refl
+
+      pub status_other : (x.status ≡ v → ⊥) → Ok false ≡ branch_status percent bs flows bytes b v
+      unfolding branch_status
+      status_other s = rw (ok, lt-leb (branches_in bs) b u, status_read bs b u x f m o q e, ne_eqb x.status v s) refl
+
+-- What a call answers after it, for any reason of its own: what the check refused, or that reason where the branch has the status already.
+abbrev pub answered : Result Bool Refusal → Refusal → Answer
+answered (Ok already) why = refuse_if already why Accepted
+answered (Err who) why = refused who
+
+module _ (percent : ℕ) (bs : List ℕ) (flows bytes b v : ℕ) (why : Refusal) where
+  pub reasoned : answered (branch_status percent bs flows bytes b v) why ≡ branch_check percent bs flows bytes b v why
+  unfolding branch_check branch_status
+  reasoned = go (lent_check percent bs flows bytes) (leb (branches_in bs) b) (eqb (branch (book_of bs) b).status v)
+    where
+      go : (o : Answer) (t u : Bool)
+          → answered (and_then o (refuse_if t NoSuchBranch (Ok u))) why ≡ and_then o (refuse_if t NoSuchBranch (refuse_if u why Accepted))
+      go (Ok _) true u = refl
+      go (Ok _) false u = refl
+      go (Err who) t u = refl
+
+  module _ {found : Result Bool Refusal} (is : found ≡ branch_status percent bs flows bytes b v) where
+    answer_of : {r : Result Bool Refusal} → found ≡ r → answered r why ≡ branch_check percent bs flows bytes b v why
+    answer_of e = ap (λ (r : Result Bool Refusal). answered r why) (sym e ∙ is) ∙ reasoned
+
+    pub refused_before : {who : Refusal} → found ≡ Err who → refused who ≡ branch_check percent bs flows bytes b v why
+    refused_before e = answer_of e
+
+    pub refused_already : {already : Bool} → found ≡ Ok already → already ≡ true → refused why ≡ branch_check percent bs flows bytes b v why
+    refused_already e t = answer_of (e ∙ ap Ok t)
+
+    pub may_switch : {already : Bool} → found ≡ Ok already → already ≡ false → branch_check percent bs flows bytes b v why ≡ Accepted
+    may_switch e t = sym (answer_of (e ∙ ap Ok t))
 
 -- A branch of an accepted book is in service where its status isn't 0, and out of service where it isn't 1.
 module _ (percent : ℕ) (bs : List ℕ) (b : ℕ) where

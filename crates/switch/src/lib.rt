@@ -3,13 +3,12 @@
 #![tactic(auto)]
 
 ghost use Rattle.std.specs.Prelude.{◌≡◌, ◌<◌};
-ghost use Rattle.switch.specs.Check.{branch_check};
+ghost use Rattle.switch.specs.Check.{branch_status};
 ghost use Rattle.switch.specs.Inside.{With};
 
-use answer::{Answer, Refusal};
+use answer::Refusal;
 
-// Refusals 21 and 1 to 8, then 9, then `already` where the branch has that status.
-// Status and refusal say twice which call asks: either alone would be turned into the other here.
+// Refusals 21 and 1 to 8, then 9; else whether the branch has that status already, for which each call has a refusal of its own.
 pub fn check(
     percent: u32,
     book: &[u8],
@@ -17,9 +16,8 @@ pub fn check(
     bytes: usize,
     branch: usize,
     status: u32,
-    already: Refusal,
-) -> Answer
-    ensures { result ≡ branch_check percent book.now flows bytes branch status already }
+) -> Result<bool, Refusal>
+    ensures { result ≡ branch_status percent book.now flows bytes branch status }
 {
     state::check_lent(percent, book, flows, bytes)?;
     let head = layout::head_of(book);
@@ -28,9 +26,9 @@ pub fn check(
     }
     let x = layout::branch_at(book, head.form, head.buses, branch);
     if x.status == status {
-        return Err(already);
+        return Ok(true);
     }
-    Ok(())
+    Ok(false)
 }
 
 // A row with one of its places written.

@@ -8,19 +8,19 @@ use Rattle.layout.specs.Layout.{branches_in}
 use Rattle.book.proofs.RowsHoldBook.{head_in_range}
 use Rattle.state.specs.Call.{lent_check}
 use Rattle.state.proofs.Checked.{passed}
-use Rattle.switch.proofs.Checking.{by_lent, by_branch, by_status, by_none}
-use Rattle.answer.proofs.Refusals.{gave_up, handed_on}
+use Rattle.switch.proofs.Checking.{status_lent, status_nowhere, status_there, status_other}
+use Rattle.answer.proofs.Refusals.{handed}
 use Rattle.switch.proofs.check.Goals as goal
 
 pub returns-in_err-check_lent : goal.returns-in_err-check_lent
 returns-in_err-check_lent c =
-    handed_on c.in_err-check_lent.was c.from_residual.ensures ∙ by_lent _ _ _ _ _ _ _ _ c.check_lent.ensures (gave_up c.in_err-check_lent.was)
+    handed c.from_residual.ensures ∙ status_lent _ _ _ _ _ _ (sym c.check_lent.ensures ∙ c.in_err-check_lent.was)
 
 pub returns-then-head-branch : goal.returns-then-head-branch
 returns-then-head-branch c =
     let bytes : List ℕ = c.args.book.now in
     let ok : lent_check c.args.percent bytes c.args.flows c.args.bytes ≡ Accepted = sym c.check_lent.ensures ∙ c.in_ok-check_lent.was in
-    by_branch _ _ _ _ _ _ _ ok
+    status_nowhere _ _ _ _ _ _ ok
     (omega (arith, c.if-head-branch.true, c.head_of-head.ensures.branches_are))
 
 pub branch_at-x-requires : goal.branch_at-x-requires
@@ -35,7 +35,7 @@ returns-then-x-status c =
     let bytes : List ℕ = c.args.book.now in
     let ok : lent_check c.args.percent bytes c.args.flows c.args.bytes ≡ Accepted = sym c.check_lent.ensures ∙ c.in_ok-check_lent.was in
     let there : c.args.branch < branches_in bytes = omega (arith, c.if-head-branch.false, c.head_of-head.ensures.branches_are) in
-    by_status _ _ _ _ _ _ _ ok there _ _ _ c.head_of-head.ensures.form_is c.head_of-head.ensures.buses_are
+    status_there _ _ _ _ _ _ ok there _ _ _ c.head_of-head.ensures.form_is c.head_of-head.ensures.buses_are
     c.branch_at-x.ensures c.if-x-status.true
 
 pub returns : goal.returns
@@ -43,5 +43,5 @@ returns c =
     let bytes : List ℕ = c.args.book.now in
     let ok : lent_check c.args.percent bytes c.args.flows c.args.bytes ≡ Accepted = sym c.check_lent.ensures ∙ c.in_ok-check_lent.was in
     let there : c.args.branch < branches_in bytes = omega (arith, c.if-head-branch.false, c.head_of-head.ensures.branches_are) in
-    by_none _ _ _ _ _ _ _ ok there _ _ _ c.head_of-head.ensures.form_is c.head_of-head.ensures.buses_are
+    status_other _ _ _ _ _ _ ok there _ _ _ c.head_of-head.ensures.form_is c.head_of-head.ensures.buses_are
     c.branch_at-x.ensures c.if-x-status.false
