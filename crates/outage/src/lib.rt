@@ -4,7 +4,7 @@
 ghost use Rattle.std.specs.Prelude.{◌≡◌, ◌<◌, ◌≤◌};
 ghost use Rattle.state.specs.Call.{lent};
 ghost use Rattle.outage.specs.Inside.{Marked, taken};
-ghost use Rattle.outage.specs.Promise.{TakeEnds, TakeCounted};
+ghost use Rattle.outage.specs.Promise.{take_check, TakeEnds, TakeCounted};
 
 use answer::{Answer, Refusal};
 use state::Survey;
@@ -26,6 +26,16 @@ pub struct Taken {
     pub judged: usize,
 }
 
+// Refusals 21 and 1 to 9, then 10.
+fn check(percent: u32, book: &[u8], flows: usize, bytes: usize, branch: usize) -> Answer
+    ensures { result ≡ take_check percent book.now flows bytes branch }
+{
+    if switch::check(percent, book, flows, bytes, branch, 0)? {
+        return Err(Refusal::AlreadyOut);
+    }
+    Ok(())
+}
+
 // Accepted, one status bit is cleared, the flow is rerouted within the normal limits, and the shortlist is written anew: so many losses were judged.
 fn lose(
     percent: u32,
@@ -36,10 +46,7 @@ fn lose(
 ) -> Result<usize, Refusal>
     ensures { TakeCounted percent branch (lent book.old flow.old table.old) (lent book.new flow.new table.new) (taken result) }
 {
-    let already = switch::check(percent, book, flow.len(), table.len(), branch, 0)?;
-    if already {
-        return Err(Refusal::AlreadyOut);
-    }
+    check(percent, book, flow.len(), table.len(), branch)?;
     let Survey {
         wires,
         served,

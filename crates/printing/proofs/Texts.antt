@@ -6,11 +6,7 @@ use Prim.Native.Nat.{ℕ}
 use borrow.Author.Tests.{eq-eqb, ne_eqb}
 use Rattle.std.specs.Prelude.{Option}
 use Rattle.answer.specs.declared.Place.{Place}
-use Rattle.std.proofs.Common.{Err}
-use Rattle.answer.specs.declared.Refusal.{Refusal}
-use Rattle.answer.specs.declared.Refusal.TheVariants.{WrongLength, CountsOutside, HeaderFill, BusWrong, BranchWrong, TailFill, NotBalanced, TooShort, NoSuchBranch, AlreadyOut, FlowUnfit, Overloaded, ListsUneven, NoSuchSupply, AdvanceTooFar, SupplyOutside, AlreadyIn, RatingsLost, NoTwoBuses, InjectionOutside, PercentOutside}
 use Rattle.answer.specs.declared.Reply.{Reply}
-use Rattle.answer.specs.Answer.{number, place, reply}
 use Rattle.layout.specs.declared.Head.{Head}
 use Rattle.layout.specs.Inside.{HeadRead}
 use Rattle.verdict.specs.Record.{record_at, verdict_in}
@@ -51,27 +47,3 @@ module _ (t : Reply) where
 
   pub reason_other : {n : ℕ} {p : Option Place} → n ≡ t.number → n ≢ 12 → p ≡ t.place → next_of n ++ place_text p ≡ reason_text t
   reason_other e h f = rw (e, f, ne_eqb t.number 12 (λ q. h (e ∙ q))) refl
-
--- Every reason but 12 shows its number and its place.
-pub reason_placed : (why : Refusal) → ((kw : ℕ) (bytes : List ℕ) → why ≡ Overloaded kw bytes → ⊥) → next_of (number why) ++ place_text (place why) ≡ reason_text (reply (Err why))
-reason_placed WrongLength h = refl
-reason_placed CountsOutside h = refl
-reason_placed HeaderFill h = refl
-reason_placed (BusWrong at) h = refl
-reason_placed (BranchWrong at) h = refl
-reason_placed TailFill h = refl
-reason_placed NotBalanced h = refl
-reason_placed TooShort h = refl
-reason_placed NoSuchBranch h = refl
-reason_placed AlreadyOut h = refl
-reason_placed FlowUnfit h = refl
-reason_placed (Overloaded kw bytes) h = absurd (h kw bytes refl)
-reason_placed ListsUneven h = refl
-reason_placed NoSuchSupply h = refl
-reason_placed AdvanceTooFar h = refl
-reason_placed SupplyOutside h = refl
-reason_placed AlreadyIn h = refl
-reason_placed RatingsLost h = refl
-reason_placed NoTwoBuses h = refl
-reason_placed InjectionOutside h = refl
-reason_placed PercentOutside h = refl

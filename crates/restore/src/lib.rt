@@ -5,7 +5,7 @@ ghost use Rattle.std.specs.Prelude.{◌≡◌, ◌*◌, ◌<◌, ◌≤◌, leng
 ghost use Rattle.state.specs.Call.{lent};
 ghost use Rattle.state.specs.Inside.{Listing};
 ghost use Rattle.restore.specs.Inside.{anew_if, anew_at};
-ghost use Rattle.restore.specs.Promise.{BackEnds};
+ghost use Rattle.restore.specs.Promise.{back_check, BackEnds};
 
 use answer::{Answer, Refusal};
 use search::Latent;
@@ -27,6 +27,16 @@ fn anew(table: &[u8], branches: usize, branch: usize) -> [u8; 32]
     bits::marked(branches, |k| is_anew(record::stretch(table, k), branch, k))
 }
 
+// Refusals 21 and 1 to 9, then 17.
+fn check(percent: u32, book: &[u8], flows: usize, bytes: usize, branch: usize) -> Answer
+    ensures { result ≡ back_check percent book.now flows bytes branch }
+{
+    if switch::check(percent, book, flows, bytes, branch, 1)? {
+        return Err(Refusal::AlreadyIn);
+    }
+    Ok(())
+}
+
 // Refusals 21, 1 to 9, 17 and 11; accepted, one status bit is set, and the records that aren't carrying are written anew.
 // A branch without flow has its whole limit left in each direction. The flow is tested by the normal limits, and losses are judged by the second.
 // What is lent stays apart, as C hands it on.
@@ -39,10 +49,7 @@ pub fn bring_back(
 ) -> Answer
     ensures { BackEnds percent branch (lent book.old flow.now table.old) (lent book.new flow.now table.new) result }
 {
-    let already = switch::check(percent, book, flow.len(), table.len(), branch, 1)?;
-    if already {
-        return Err(Refusal::AlreadyIn);
-    }
+    check(percent, book, flow.len(), table.len(), branch)?;
     let Survey {
         wires,
         served,
